@@ -1,0 +1,121 @@
+ghost use mathlib.Core.Path.{_≡_};
+ghost use mathlib.Core.Bool.{cond};
+ghost use Prim.Native.Nat.{_^_};
+ghost use lib.ListN.{replicate};
+ghost use Rattle.std.specs.Of.Vec.{vec-items};
+ghost use Rattle.std.specs.Results.{Cases as ByOk};
+ghost use Rattle.std.specs.declared.option.Option.the-variants.{None, Some};
+ghost use Rattle.frame.specs.Cells.{inSpan};
+ghost use Rattle.frame.specs.Faults.{Answers};
+ghost use Rattle.frame.specs.Frames.{entered, entryFault, heightsOf, refusalOf};
+ghost use Rattle.frame.specs.Heads.{inside};
+ghost use Rattle.frame.specs.declared.frames.FrameFault.the-variants.{Cell, Memory};
+use super::*;
+use crate::refusals::Refusal;
+use std::alloc::AllocError;
+use std::alloc::Global;
+
+// How an untold cell stands in a closed frame.
+pub const UNTOLD: i32 = LOWEST;
+
+pub impl From<AllocError> for FrameFault as FrameFaultFromAlloc {
+    ghost converts = { λ _ r. r ≡ Memory };
+
+    fn from(_e: AllocError) -> FrameFault {
+        FrameFault::Memory
+    }
+}
+
+impl FrameFault {
+    // The refusal that this is; want of memory is none.
+    pub fn refusal(self) -> Option<Refusal>
+        ensures { λ r. ⌜ r ≡ refusalOf self ⌝ }
+    {
+        match self {
+            FrameFault::Height => Some(Refusal::Height),
+            FrameFault::Cell => Some(Refusal::Cell),
+            FrameFault::ToldTwice => Some(Refusal::ToldTwice),
+            FrameFault::Memory => None,
+        }
+    }
+}
+
+// The lowest and the highest height that a cell may have.
+pub const LOWEST: i32 = -8192;
+
+pub const HIGHEST: i32 = 8191;
+
+fn in_span(height: i32) -> bool
+    ensures { λ r. ⌜ r ≡ inSpan height ⌝ }
+{
+    LOWEST <= height && height <= HIGHEST
+}
+
+impl OpenFrame {
+    // A frame with no cell told. It is never refused; memory may be wanting.
+    pub fn open(shape: Shape, heap: Global) -> Result<OpenFrame, FrameFault>
+        ensures { λ r. ⌜ ByOk r (λ f. (f .shape ≡ shape) × (vec-items (f .cells) ≡ replicate (4 ^ shape .exponent) None)) (λ e. e ≡ Memory) ⌝ }
+    {
+        let cells = vec![in heap; None; shape.area()]?;
+        Ok(OpenFrame { shape, cells })
+    }
+
+    pub fn shape(&self) -> Shape
+        ensures { λ r. ⌜ r ≡ now (self .entry) .shape ⌝ }
+    {
+        self.shape
+    }
+
+    // Tells the height of one cell.
+    pub fn enter(&mut self, row: usize, column: usize, height: i32) -> Result<(), FrameFault>
+        ensures answer { λ r. ⌜ Answers r (entryFault (now (self .entry) .shape .exponent) (vec-items (now (self .entry) .cells)) row column height) (λ _. Unit {0}) ⌝ }
+        ensures cells { λ _. ⌜ vec-items (now (self .exit) .cells) ≡ entered (now (self .entry) .shape .exponent) (vec-items (now (self .entry) .cells)) row column height ⌝ }
+        ensures shape { λ _. ⌜ now (self .exit) .shape ≡ now (self .entry) .shape ⌝ }
+    {
+        if !in_span(height) {
+            return Err(FrameFault::Height);
+        }
+        let Some(place) = self.shape.place(row, column) else {
+            return Err(FrameFault::Cell);
+        };
+        if self.cells[place].is_some() {
+            return Err(FrameFault::ToldTwice);
+        }
+        self.cells[place] = Some(height);
+        Ok(())
+    }
+
+    // The frame as it is told, for good.
+    pub fn close(self) -> ClosedFrame
+        ensures shape { λ r. ⌜ r .shape ≡ self .shape ⌝ }
+        ensures cells { λ r. ⌜ vec-items (r .cells) ≡ vec-items (self .cells) ⌝ }
+    {
+        let OpenFrame { shape, cells } = self;
+        ClosedFrame { shape, cells }
+    }
+}
+
+impl ClosedFrame {
+    pub fn shape(&self) -> Shape
+        ensures { λ r. ⌜ r ≡ now (self .entry) .shape ⌝ }
+    {
+        self.shape
+    }
+
+    // The told heights in row order.
+    pub fn cells(&self) -> &[Option<i32>]
+        ensures { λ r. ⌜ now r ≡ vec-items (now (self .entry) .cells) ⌝ }
+    {
+        self.cells.as_slice()
+    }
+
+    // The height of one cell.
+    pub fn height(&self, row: usize, column: usize) -> Result<i32, FrameFault>
+        ensures { λ r. ⌜ Answers r (cond (inside (now (self .entry) .shape .exponent) row column) None (Some Cell)) (λ h. h ≡ heightsOf (now (self .entry) .shape .exponent) (vec-items (now (self .entry) .cells)) row column) ⌝ }
+    {
+        let Some(place) = self.shape.place(row, column) else {
+            return Err(FrameFault::Cell);
+        };
+        Ok(self.cells[place].unwrap_or(UNTOLD))
+    }
+}

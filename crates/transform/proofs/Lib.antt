@@ -1,0 +1,4 @@
+pub mod Halving
+pub mod Levels
+pub mod Planes
+pub mod Errors
