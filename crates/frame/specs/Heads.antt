@@ -25,9 +25,12 @@ refusalOf fault.Buffer = refusal.Buffer
 abbrev pub shapeFault : ℕ → ℕ → Option HeadFault
 shapeFault m k = cond (leb 1 m && leb m 6) (cond (leb k m) None (Some fault.Levels)) (Some fault.Side)
 
--- and with a head of these and p planes
+-- What is wrong with p planes, and with a head of all three.
+abbrev pub planesFault : ℕ → Option HeadFault
+planesFault p = cond (leb p 15) None (Some fault.Planes)
+
 abbrev pub headFault : ℕ → ℕ → ℕ → Option HeadFault
-headFault m k p = orElse (shapeFault m k) (cond (leb p 15) None (Some fault.Planes))
+headFault m k p = orElse (shapeFault m k) (planesFault p)
 
 -- What is wrong with the bytes of a head: too few come before all else, the edition after all else.
 abbrev pub bytesFault : List ℕ → Option HeadFault

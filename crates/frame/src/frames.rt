@@ -11,6 +11,11 @@ use crate::heads::Shape;
 
 mod calls;
 
+pub use calls::FrameFaultFromAlloc;
+pub use calls::HIGHEST;
+pub use calls::LOWEST;
+pub use calls::UNTOLD;
+
 // A cell's height in centimetres, where it has been told, in row order.
 #[derive(Drop)]
 pub struct OpenFrame {

@@ -4,6 +4,8 @@ ghost use Prim.Native.Nat.{_≤_};
 mod bytes;
 mod making;
 
+pub use making::RefusalFromHead;
+
 // A checked pair: a map of side 2^exponent, transformed by that many levels.
 #[derive(Clone, Copy, PartialEq, Eq, Debug)]
 pub struct Shape {

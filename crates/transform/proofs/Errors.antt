@@ -158,8 +158,12 @@ near-same a b p = omega (arith, ints)
 same-near : (a b : ℤ) (n : ℕ) → n ≡ 0 → Near a b n → a ≡ b
 same-near a b n e p = omega (arith, ints)
 
-pub unlevels-local : (k w s : ℕ) (g g′ : Grid) → w ≤ s → On s (λ i j. g i j ≡ g′ i j) → On s (λ i j. unlevels k w g i j ≡ unlevels k w g′ i j)
+unlevels-local : (k w s : ℕ) (g g′ : Grid) → w ≤ s → On s (λ i j. g i j ≡ g′ i j) → On s (λ i j. unlevels k w g i j ≡ unlevels k w g′ i j)
 unlevels-local k w s g g′ le same i j p q = same-near _ _ (0 + k * growth 0) (omega arith) (unlevels-near k w s g g′ 0 le (λ i j p q. near-same _ _ (same i j p q)) .0 i j p q)
+
+pub undone-local : (m k : ℕ) (g g′ : Grid) → On (2 ^ m) (λ i j. g i j ≡ g′ i j) → On (2 ^ m) (λ i j. undone m k g i j ≡ undone m k g′ i j)
+unfolding undone
+undone-local m k g g′ same = unlevels-local k (2 ^ m) (2 ^ m) g g′ (omega arith) same
 
 -- no coefficients, no heights
 one-flat : (j : ℕ) → oneOf j (pos 0) (pos 0) ≡ pos 0
@@ -186,7 +190,7 @@ to-flat : (a : ℤ) → natAbs a < 2 ^ 15 → Near (pos 0) a 32767
 to-flat a p = omega (arith, ints)
 
 -- for any number of levels
-pub readings : (k w s : ℕ) (g : Grid) → w ≤ s → On s (λ i j. natAbs (g i j) < 2 ^ 15) → On s (λ i j. natAbs (unlevels k w g i j) ≤ 32767 + k * 40960)
+readings : (k w s : ℕ) (g : Grid) → w ≤ s → On s (λ i j. natAbs (g i j) < 2 ^ 15) → On s (λ i j. natAbs (unlevels k w g i j) ≤ 32767 + k * 40960)
 readings k w s g le small i j p q =
     let n : Near (unlevels k w (λ i j. pos 0) i j) (unlevels k w g i j) (32767 + k * 40960) = unlevels-near k w s (λ i j. pos 0) g 32767 le (λ i j p q. to-flat (g i j) (small i j p q)) .0 i j p q in
     let z : unlevels k w (λ i j. pos 0) i j ≡ pos 0 = ap (λ u. u i j) (unlevels-flat k w) in

@@ -1,4 +1,4 @@
-use mathlib.Core.Path.{_≡_, refl, ap, _∙_}
+use mathlib.Core.Path.{_≡_, refl, sym, ap, ap₂, _∙_}
 use mathlib.Core.Bool.{Bool, true, false, cond}
 use mathlib.Core.Logic.{inl, inr}
 use lib.Dec.{ltb, eqb}
@@ -25,11 +25,11 @@ unfolding halved
 halved-rest h f j p = cond-false _ _ _ (le-ltb j (2 * h) p)
 
 -- the first half has the lows, and the second the differences
-halved-low : (h : ℕ) (f : Line) (j : ℕ) → j < h → halved h f j ≡ lowOf (f (2 * j)) (f (2 * j + 1))
+pub halved-low : (h : ℕ) (f : Line) (j : ℕ) → j < h → halved h f j ≡ lowOf (f (2 * j)) (f (2 * j + 1))
 unfolding halved partOf
 halved-low h f j p = let q : j < 2 * h = omega arith in simp (lt-ltb j h p, lt-ltb j (2 * h) q)
 
-halved-difference : (h : ℕ) (f : Line) (j : ℕ) → j < h → halved h f (h + j) ≡ f (2 * j) -ℤ f (2 * j + 1)
+pub halved-difference : (h : ℕ) (f : Line) (j : ℕ) → j < h → halved h f (h + j) ≡ f (2 * j) -ℤ f (2 * j + 1)
 unfolding halved partOf
 halved-difference h f j p =
     let q : h ≤ h + j = omega arith in
@@ -70,3 +70,12 @@ line-back h f j =
 -- the rows of a pair are in the square
 pub pair-below : (h j : ℕ) → j < 2 * h → pairOf h j < h
 pair-below h j p = elim (cases-lt j h) [ inl q ↦ rw (lt-ltb j h q) q | inr q ↦ rw (le-ltb j h q) (omega arith) ]
+
+-- lines that agree on their first s places are halved alike there
+pub halved-local : (h s : ℕ) (f f′ : Line) → 2 * h ≤ s → ((j : ℕ) → j < s → f j ≡ f′ j) → (j : ℕ) → j < s → halved h f j ≡ halved h f′ j
+halved-local h s f f′ le same j l = elim (cases-lt j (2 * h)) [
+  | inr p ↦ halved-rest h f j p ∙ same j l ∙ sym (halved-rest h f′ j p)
+  | inl p ↦
+      let b = pair-below h j p in
+      halved-in h f j p ∙ ap₂ (partOf h j) (same (2 * pairOf h j) (omega arith)) (same (2 * pairOf h j + 1) (omega arith)) ∙ sym (halved-in h f′ j p)
+]

@@ -65,3 +65,7 @@ level-local h s g g′ le same i j p q = elim (cases-lt i (2 * h)) [
 pub levels-local : (k w s : ℕ) (g g′ : Grid) → w ≤ s → On s (λ i j. g i j ≡ g′ i j) → On s (λ i j. levels k w g i j ≡ levels k w g′ i j)
 levels-local zero w s g g′ le same = same
 levels-local (suc k) w s g g′ le same = levels-local k (w / 2) s (level (w / 2) g) (level (w / 2) g′) (omega arith) (level-local (w / 2) s g g′ (omega arith) same)
+
+pub transform-local : (m k : ℕ) (g g′ : Grid) → On (2 ^ m) (λ i j. g i j ≡ g′ i j) → On (2 ^ m) (λ i j. transform m k g i j ≡ transform m k g′ i j)
+unfolding transform
+transform-local m k g g′ same = levels-local k (2 ^ m) (2 ^ m) g g′ (omega arith) same

@@ -6,10 +6,10 @@ use Prim.Native.Nat.{ℕ, zero, suc, _+_, _-_, _*_, _/_, _^_, _<_, _≤_}
 use native.Mathlib.Omega.{arith}
 use borrow.Author.Differences.{ints}
 use lib.IntN.{ℤ, _+ℤ_, _-ℤ_, natAbs}
-use Rattle.std.proofs.shelf.Tests.{lt-ltb, cases-lt}
-use Rattle.transform.specs.Transform.{Grid, On, lowOf, pairOf, partOf, level, levels, transform}
+use Rattle.std.proofs.shelf.Tests.{lt-ltb, le-ltb, cases-lt}
+use Rattle.transform.specs.Transform.{Grid, Line, On, lowOf, pairOf, partOf, halved, inRows, level, levels, transform}
 use Rattle.transform.specs.Planes.{Span, Below-planes, PlaneCount, Fifteen-planes}
-use Rattle.transform.proofs.Halving.{half-is, pair-below}
+use Rattle.transform.proofs.Halving.{half-is, pair-below, halved-in, halved-rest}
 use Rattle.transform.proofs.Levels.{level-in, level-out}
 
 -- a low of heights is a height, and a difference of numbers below n is below 2 n
@@ -30,6 +30,19 @@ pick-small false a b n p q = omega (arith, ints)
 pub part-small : (h j : ℕ) (a b : ℤ) (n : ℕ) → natAbs a ≤ n → natAbs b ≤ n → natAbs (partOf h j a b) ≤ 2 * n
 unfolding partOf
 part-small h j a b n p q = pick-small (ltb j h) a b n p q
+
+-- so halving at most doubles what a line, and each row of a square, has
+halved-small : (h s n : ℕ) (f : Line) → 2 * h ≤ s → ((j : ℕ) → j < s → natAbs (f j) ≤ n) → (j : ℕ) → j < s → natAbs (halved h f j) ≤ 2 * n
+halved-small h s n f le small j l = elim (cases-lt j (2 * h)) [
+  | inr p ↦ rw (halved-rest h f j p) (omega (arith, small j l))
+  | inl p ↦ let b = pair-below h j p in rw (halved-in h f j p) (part-small h j _ _ n (small (2 * pairOf h j) (omega arith)) (small (2 * pairOf h j + 1) (omega arith)))
+]
+
+pub rows-small : (w h s n : ℕ) (g : Grid) → 2 * h ≤ s → On s (λ i j. natAbs (g i j) ≤ n) → On s (λ i j. natAbs (inRows w (halved h) g i j) ≤ 2 * n)
+rows-small w h s n g le small i j p q = elim (cases-lt i w) [
+  | inl l ↦ rw (lt-ltb i w l) (halved-small h s n (g i) le (λ u k. small i u p k) j q)
+  | inr l ↦ rw (le-ltb i w l) (omega (arith, small i j p q))
+]
 
 -- from heights a difference is at most 16383
 pick-height : (t : Bool) (a b : ℤ) → Span a → Span b → natAbs (cond t (lowOf a b) (a -ℤ b)) ≤ 16383

@@ -2,7 +2,7 @@ ghost use mathlib.Core.Path.{_≡_};
 ghost use Prim.Native.Nat.{_^_, _<_, _≤_};
 ghost use Rattle.std.specs.Options.{Cases as BySome};
 ghost use Rattle.frame.specs.Faults.{Answers};
-ghost use Rattle.frame.specs.Heads.{headFault, placeOf, refusalOf, shapeFault};
+ghost use Rattle.frame.specs.Heads.{headFault, placeOf, planesFault, refusalOf, shapeFault};
 use super::*;
 use crate::refusals::Refusal;
 
@@ -79,7 +79,13 @@ impl Head {
     pub fn new(exponent: u8, levels: u8, planes: u8) -> Result<Head, HeadFault>
         ensures { λ r. ⌜ Answers r (headFault exponent levels planes) (λ h. (h .shape .exponent ≡ exponent) × (h .shape .levels ≡ levels) × (h .planes ≡ planes)) ⌝ }
     {
-        let shape = Shape::new(exponent, levels)?;
+        Head::of(Shape::new(exponent, levels)?, planes)
+    }
+
+    // The head of a shape that is checked already.
+    pub fn of(shape: Shape, planes: u8) -> Result<Head, HeadFault>
+        ensures { λ r. ⌜ Answers r (planesFault planes) (λ h. (h .shape ≡ shape) × (h .planes ≡ planes)) ⌝ }
+    {
         if planes > 15 {
             return Err(HeadFault::Planes);
         }
