@@ -14,12 +14,11 @@ use Rattle.frame.specs.declared.frames.FrameFault.the-variants as fault
 use Rattle.frame.specs.declared.refusals.Refusal.{Refusal}
 use Rattle.frame.specs.declared.refusals.Refusal.the-variants as refusal
 
--- which refusal a fault of a frame is; want of memory is none
-abbrev pub refusalOf : FrameFault → Option Refusal
-refusalOf fault.Height = Some refusal.Height
-refusalOf fault.Cell = Some refusal.Cell
-refusalOf fault.ToldTwice = Some refusal.ToldTwice
-refusalOf fault.Memory = None
+-- which refusal a fault of a frame is
+abbrev pub refusalOf : FrameFault → Refusal
+refusalOf fault.Height = refusal.Height
+refusalOf fault.Cell = refusal.Cell
+refusalOf fault.ToldTwice = refusal.ToldTwice
 
 -- the cell at a row and a column of 2^m rows of 2^m cells each, row after row
 abbrev pub cellAt : ℕ → List (Option ℤ) → ℕ → ℕ → Option ℤ

@@ -11,7 +11,7 @@ use crate::heads::Shape;
 
 mod calls;
 
-pub use calls::FrameFaultFromAlloc;
+pub use calls::RefusalFromFrame;
 pub use calls::HIGHEST;
 pub use calls::LOWEST;
 pub use calls::UNTOLD;
@@ -34,11 +34,10 @@ pub struct ClosedFrame {
     ghost allowed: { ((p : ℕ) → mayStand (getD (vec-items cells) p None) ≡ true) },
 }
 
-// What the calls on frames refuse, and want of memory, which is no refusal.
+// What telling a cell, or reading one, refuses.
 #[derive(Clone, Copy, PartialEq, Eq, Debug)]
 pub enum FrameFault {
     Height,
     Cell,
     ToldTwice,
-    Memory,
 }

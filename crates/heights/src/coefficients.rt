@@ -8,6 +8,9 @@ use frame::heads::Shape;
 
 mod making;
 mod planes;
+mod reading;
+
+pub use reading::CoefficientsGrid;
 
 // The transform of a frame's heights by its levels, in row order.
 #[derive(Drop)]

@@ -3,13 +3,13 @@ ghost use mathlib.Core.Bool.{cond};
 ghost use Prim.Native.Nat.{_^_};
 ghost use lib.ListN.{replicate};
 ghost use Rattle.std.specs.Of.Vec.{vec-items};
-ghost use Rattle.std.specs.Results.{Cases as ByOk};
+ghost use Rattle.std.specs.Vec.{made};
 ghost use Rattle.std.specs.declared.option.Option.the-variants.{None, Some};
 ghost use Rattle.frame.specs.Cells.{inSpan};
 ghost use Rattle.frame.specs.Faults.{Answers};
 ghost use Rattle.frame.specs.Frames.{entered, entryFault, heightsOf, refusalOf};
 ghost use Rattle.frame.specs.Heads.{inside};
-ghost use Rattle.frame.specs.declared.frames.FrameFault.the-variants.{Cell, Memory};
+ghost use Rattle.frame.specs.declared.frames.FrameFault.the-variants.{Cell};
 use super::*;
 use crate::refusals::Refusal;
 use std::alloc::AllocError;
@@ -18,24 +18,14 @@ use std::alloc::Global;
 // How an untold cell stands in a closed frame.
 pub const UNTOLD: i32 = LOWEST;
 
-pub impl From<AllocError> for FrameFault as FrameFaultFromAlloc {
-    ghost converts = { λ _ r. r ≡ Memory };
+pub impl From<FrameFault> for Refusal as RefusalFromFrame {
+    ghost converts = { λ e r. r ≡ refusalOf e };
 
-    fn from(_e: AllocError) -> FrameFault {
-        FrameFault::Memory
-    }
-}
-
-impl FrameFault {
-    // The refusal that this is; want of memory is none.
-    pub fn refusal(self) -> Option<Refusal>
-        ensures { λ r. ⌜ r ≡ refusalOf self ⌝ }
-    {
-        match self {
-            FrameFault::Height => Some(Refusal::Height),
-            FrameFault::Cell => Some(Refusal::Cell),
-            FrameFault::ToldTwice => Some(Refusal::ToldTwice),
-            FrameFault::Memory => None,
+    fn from(e: FrameFault) -> Refusal {
+        match e {
+            FrameFault::Height => Refusal::Height,
+            FrameFault::Cell => Refusal::Cell,
+            FrameFault::ToldTwice => Refusal::ToldTwice,
         }
     }
 }
@@ -53,8 +43,8 @@ fn in_span(height: i32) -> bool
 
 impl OpenFrame {
     // A frame with no cell told. It is never refused; memory may be wanting.
-    pub fn open(shape: Shape, heap: Global) -> Result<OpenFrame, FrameFault>
-        ensures { λ r. ⌜ ByOk r (λ f. (f .shape ≡ shape) × (vec-items (f .cells) ≡ replicate (4 ^ shape .exponent) None)) (λ e. e ≡ Memory) ⌝ }
+    pub fn open(shape: Shape, heap: Global) -> Result<OpenFrame, AllocError>
+        ensures { λ r. ⌜ made r (λ f. (f .shape ≡ shape) × (vec-items (f .cells) ≡ replicate (4 ^ shape .exponent) None)) ⌝ }
     {
         let cells = vec![in heap; None; shape.area()]?;
         Ok(OpenFrame { shape, cells })

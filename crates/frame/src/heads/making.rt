@@ -48,6 +48,7 @@ impl Shape {
     // How many rows the map has, and how many columns.
     pub fn side(&self) -> usize
         ensures value { λ r. ⌜ r ≡ 2 ^ now (self .entry) .exponent ⌝ }
+        ensures some { λ r. ⌜ 0 < r ⌝ }
         ensures small { λ r. ⌜ r ≤ 64 ⌝ }
     {
         1 << self.exponent

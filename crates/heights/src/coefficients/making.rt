@@ -3,18 +3,14 @@ ghost use mathlib.Core.Path.{_≡_};
 ghost use Prim.Native.Nat.{_^_, _≤_};
 ghost use lib.ListN.{length};
 ghost use Rattle.std.specs.Of.Vec.{vec-items};
-ghost use Rattle.std.specs.Results.{Cases as ByOk};
 ghost use Rattle.std.specs.Vec.{made};
 ghost use Rattle.frame.specs.Cells.{settled};
-ghost use Rattle.frame.specs.declared.frames.FrameFault.the-variants.{Memory};
 ghost use Rattle.transform.specs.Planes.{Span};
 ghost use Rattle.transform.specs.Transform.{On, gridOf, transform as transformOf};
 ghost use Rattle.heights.specs.Coefficients.{Transformed};
 use super::*;
 use crate::lines::level;
 use frame::frames::ClosedFrame;
-use frame::frames::FrameFault;
-use frame::frames::FrameFaultFromAlloc;
 use frame::frames::UNTOLD;
 use std::alloc::AllocError;
 use std::alloc::Global;
@@ -47,8 +43,8 @@ fn transform(values: &mut [i32], shape: Shape)
 
 impl Coefficients {
     // The coefficients of a frame, from which undoing gives its heights back.
-    pub fn of(frame: &ClosedFrame, heap: Global) -> Result<Coefficients, FrameFault>
-        ensures { λ r. ⌜ ByOk r (λ c. Transformed (now (frame .entry)) c) (λ e. e ≡ Memory) ⌝ }
+    pub fn of(frame: &ClosedFrame, heap: Global) -> Result<Coefficients, AllocError>
+        ensures { λ r. ⌜ made r (λ c. Transformed (now (frame .entry)) c) ⌝ }
     {
         let shape = frame.shape();
         let mut values = settle(frame, heap)?;

@@ -4,25 +4,7 @@ ghost use Rattle.std.specs.Of.Vec.{vec-items};
 ghost use Rattle.transform.specs.Planes.{PlaneCount};
 ghost use Rattle.heights.specs.Coefficients.{Top, coefficientsOf};
 use super::*;
-use crate::undoing::CoefficientGrid;
 use frame::heads::Head;
-
-pub impl CoefficientGrid for Coefficients as CoefficientsGrid {
-    ghost shaped = { λ c. c .shape };
-
-    ghost coefs = { coefficientsOf };
-
-    fn shape(&self) -> Shape {
-        self.shape
-    }
-
-    fn coefficient(&self, row: usize, column: usize) -> i32 {
-        match self.shape.place(row, column) {
-            Some(place) => self.values[place],
-            None => 0,
-        }
-    }
-}
 
 // The number of binary digits of `n`.
 fn bit_length(n: u32) -> u8

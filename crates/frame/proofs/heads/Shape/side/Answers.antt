@@ -1,5 +1,5 @@
 use native.Mathlib.Omega.{arith}
-use Rattle.std.proofs.shelf.Bits.{one-shl}
+use Rattle.std.proofs.shelf.Bits.{one-shl, pow-pos}
 use Rattle.frame.proofs.Squares.{side-small}
 use Rattle.frame.proofs.heads.Shape.side.Needs as need
 
@@ -7,4 +7,4 @@ pub returns : need.returns
 returns c =
     let m = c .args .self .now .exponent in
     let e = one-shl m 64 (omega (arith, c .args .self .now .small)) in
-    record { value = e; small = omega (arith, side-small m (c .args .self .now .small)) }
+    record { value = e; some = omega (arith, pow-pos m); small = omega (arith, side-small m (c .args .self .now .small)) }
