@@ -11,9 +11,9 @@ use crate::heads::Shape;
 
 mod calls;
 
-pub use calls::RefusalFromFrame;
 pub use calls::HIGHEST;
 pub use calls::LOWEST;
+pub use calls::RefusalFromFrame;
 pub use calls::UNTOLD;
 
 // A cell's height in centimetres, where it has been told, in row order.

@@ -4,8 +4,8 @@ mod printing;
 mod reading;
 
 use faults::Fault;
-use faults::FaultFromAlloc;
 use faults::FaultDisplay;
+use faults::FaultFromAlloc;
 use heights::coefficients::Coefficients;
 use std::io::ReadMethods;
 

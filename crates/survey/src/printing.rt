@@ -25,7 +25,10 @@ pub(crate) fn page(coefficients: &Coefficients, heap: Global) -> Result<String, 
     let side = shape.side();
     let levels = shape.levels();
     let planes = head.planes();
-    let mut page = format!(heap, "side {side} levels {levels} planes {planes}\ncoefficients\n")?;
+    let mut page = format!(
+        heap,
+        "side {side} levels {levels} planes {planes}\ncoefficients\n"
+    )?;
     add_rows(&mut page, coefficients.values(), shape)?;
     page.push_str("heights\n")?;
     let mut heights = vec![in heap; 0i32; shape.area()]?;

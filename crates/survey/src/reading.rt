@@ -21,7 +21,10 @@ pub(crate) fn text(bytes: &[u8]) -> Result<&str, Fault> {
                     line = line.saturating_add(1);
                 }
             }
-            Err(Fault::Expected { line, what: Expected::Text })
+            Err(Fault::Expected {
+                line,
+                what: Expected::Text,
+            })
         }
     }
 }
@@ -39,11 +42,17 @@ fn numbers(line: &str) -> Option<(u8, u8)> {
 
 fn shape(line: &str) -> Result<Shape, Fault> {
     let Some((exponent, levels)) = numbers(line) else {
-        return Err(Fault::Expected { line: 1, what: Expected::Shape });
+        return Err(Fault::Expected {
+            line: 1,
+            what: Expected::Shape,
+        });
     };
     match Shape::new(exponent, levels) {
         Ok(shape) => Ok(shape),
-        Err(e) => Err(Fault::Refused { line: 1, refusal: Refusal::from(e) }),
+        Err(e) => Err(Fault::Refused {
+            line: 1,
+            refusal: Refusal::from(e),
+        }),
     }
 }
 
@@ -54,20 +63,32 @@ fn enter_row(frame: &mut OpenFrame, row: usize, text: &str) -> Result<(), Fault>
     let mut column: usize = 0;
     for word in text.split_ascii_whitespace() {
         if column >= side {
-            return Err(Fault::Expected { line, what: Expected::Entries(side) });
+            return Err(Fault::Expected {
+                line,
+                what: Expected::Entries(side),
+            });
         }
         if word != "." {
             let Ok(height) = word.parse::<i32>() else {
-                return Err(Fault::Expected { line, what: Expected::Height });
+                return Err(Fault::Expected {
+                    line,
+                    what: Expected::Height,
+                });
             };
             if let Err(e) = frame.enter(row, column, height) {
-                return Err(Fault::Refused { line, refusal: Refusal::from(e) });
+                return Err(Fault::Refused {
+                    line,
+                    refusal: Refusal::from(e),
+                });
             }
         }
         column += 1;
     }
     if column < side {
-        return Err(Fault::Expected { line, what: Expected::Entries(side) });
+        return Err(Fault::Expected {
+            line,
+            what: Expected::Entries(side),
+        });
     }
     Ok(())
 }
@@ -83,11 +104,17 @@ pub(crate) fn stack(text: &str, heap: Global) -> Result<ClosedFrame, Fault> {
             enter_row(&mut frame, row, line)?;
             rows = row + 1;
         } else if line.split_ascii_whitespace().next().is_some() {
-            return Err(Fault::Expected { line: row.saturating_add(2), what: Expected::End });
+            return Err(Fault::Expected {
+                line: row.saturating_add(2),
+                what: Expected::End,
+            });
         }
     }
     if rows < side {
-        return Err(Fault::Expected { line: rows + 2, what: Expected::Entries(side) });
+        return Err(Fault::Expected {
+            line: rows + 2,
+            what: Expected::Entries(side),
+        });
     }
     Ok(frame.close())
 }

@@ -1,0 +1,28 @@
+// Examples worked by hand: as one theorem on the definitions, and made by the code.
+ghost use mathlib.Core.Path.{_≡_};
+ghost use Rattle.std.specs.Vec.{made};
+ghost use Rattle.heights.specs.Coefficients.{coefficientsOf};
+ghost use Rattle.transform.specs.Transform.{On};
+ghost use Rattle.examples.specs.Worked.{Worked-examples, coefficients2};
+use frame::frames::OpenFrame;
+use frame::heads::Shape;
+use heights::coefficients::Coefficients;
+use std::alloc::AllocError;
+use std::alloc::Global;
+
+pub fn worked_examples()
+    ensures { λ _. ⌜ Worked-examples ⌝ }
+{}
+
+// The coefficients of the map 10 7 / 4 5, by one level.
+pub fn coefficients(heap: Global) -> Result<Coefficients, AllocError>
+    ensures { λ r. ⌜ made r (λ c. On 2 (λ i j. coefficientsOf c i j ≡ coefficients2 i j)) ⌝ }
+{
+    let shape = Shape::new(1, 1).unwrap();
+    let mut frame = OpenFrame::open(shape, heap)?;
+    let _ = frame.enter(0, 0, 10);
+    let _ = frame.enter(0, 1, 7);
+    let _ = frame.enter(1, 0, 4);
+    let _ = frame.enter(1, 1, 5);
+    Coefficients::of(&frame.close(), heap)
+}
