@@ -1,4 +1,4 @@
-// Examples worked by hand: as one theorem on the definitions, and made by the code.
+// Examples worked by hand: as one table on the definitions, and the first of them made by the code.
 ghost use mathlib.Core.Path.{_≡_};
 ghost use Rattle.std.specs.Vec.{made};
 ghost use Rattle.heights.specs.Coefficients.{coefficientsOf};
@@ -10,13 +10,10 @@ use heights::coefficients::Coefficients;
 use std::alloc::AllocError;
 use std::alloc::Global;
 
-pub fn worked_examples()
-    ensures { λ _. ⌜ Worked-examples ⌝ }
-{}
-
 // The coefficients of the map 10 7 / 4 5, by one level.
 pub fn coefficients(heap: Global) -> Result<Coefficients, AllocError>
-    ensures { λ r. ⌜ made r (λ c. On 2 (λ i j. coefficientsOf c i j ≡ coefficients2 i j)) ⌝ }
+    ensures table { λ _. ⌜ Worked-examples ⌝ }
+    ensures made { λ r. ⌜ made r (λ c. On 2 (λ i j. coefficientsOf c i j ≡ coefficients2 i j)) ⌝ }
 {
     let shape = Shape::new(1, 1).unwrap();
     let mut frame = OpenFrame::open(shape, heap)?;

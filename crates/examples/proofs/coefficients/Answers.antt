@@ -1,3 +1,4 @@
+use borrow.Author.Needs.{needs}
 use mathlib.Core.Path.{_≡_, refl, sym, ap, _∙_}
 use Rattle.std.proofs.shelf.Results.{made-weaker}
 use Rattle.std.specs.Of.Vec.{vec-items}
@@ -6,7 +7,7 @@ use Rattle.frame.proofs.Outcomes.{answers-value}
 use Rattle.heights.specs.Coefficients.{Transformed, coefficientsOf}
 use Rattle.transform.specs.Transform.{On}
 use Rattle.examples.specs.Worked.{coefficients2}
-use Rattle.examples.proofs.Table.{told, made2}
+use Rattle.examples.proofs.Table.{made2, told, worked}
 use Rattle.examples.proofs.coefficients.Needs as need
 
 pub returns : need.returns
@@ -20,5 +21,7 @@ returns c =
     let e₃ = c .enter-3 .ensures .shape ∙ e₂ in
     let e = c .close .ensures .shape ∙ c .enter-4 .ensures .shape ∙ e₃ in
     let t = told _ _ _ _ _ _ _ _ _ _ (s .0) m (ap (λ x. x .exponent) e₁ ∙ m) (ap (λ x. x .exponent) e₂ ∙ m) (ap (λ x. x .exponent) e₃ ∙ m) (c .in-Continue-frame .ensures tt .1) (c .enter .ensures .cells) (c .enter-2 .ensures .cells) (c .enter-3 .ensures .cells) (c .enter-4 .ensures .cells) in
-    made-weaker (c .of .result) (λ x. Transformed (c .close .result) x) (λ x. On 2 (λ i j. coefficientsOf x i j ≡ coefficients2 i j))
-    (λ x h. made2 _ _ _ (coefficientsOf x) (ap (λ x. x .exponent) e ∙ m) (ap (λ x. x .levels) e ∙ k) (c .close .ensures .cells ∙ t) (h .defined)) (c .of .ensures)
+    record { table = worked; made = made-weaker (c .of .result) (λ x. Transformed (c .close .result) x) (λ x. On 2 (λ i j. coefficientsOf x i j ≡ coefficients2 i j)) (λ x h. made2 _ _ _ (coefficientsOf x) (ap (λ x. x .exponent) e ∙ m) (ap (λ x. x .levels) e ∙ k) (c .close .ensures .cells ∙ t) (h .defined)) (c .of .ensures) }
+
+pub returns-in-Break-frame : need.returns-in-Break-frame
+returns-in-Break-frame c = record { table = worked; made = search needs }

@@ -1,5 +1,0 @@
-use Rattle.examples.proofs.Table.{worked}
-use Rattle.examples.proofs.worked_examples.Needs as need
-
-pub returns : need.returns
-returns c = worked
