@@ -4,9 +4,9 @@ ghost use Rattle.std.specs.Vec.{made};
 ghost use Rattle.heights.specs.Coefficients.{coefficientsOf};
 ghost use Rattle.transform.specs.Transform.{On};
 ghost use Rattle.examples.specs.Worked.{Worked-examples, coefficients2};
-use frame::frames::OpenFrame;
-use frame::heads::Shape;
-use heights::coefficients::Coefficients;
+use frame::OpenFrame;
+use head::Shape;
+use heights::Coefficients;
 use std::alloc::AllocError;
 use std::alloc::Global;
 

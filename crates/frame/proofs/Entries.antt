@@ -17,21 +17,11 @@ use Rattle.std.specs.Options.{isSome, valueOr}
 use Rattle.std.specs.declared.option.Option.{Option}
 use Rattle.std.specs.declared.option.Option.the-variants.{Some, None}
 use Rattle.frame.specs.Cells.{inSpan, mayStand, settled}
-use Rattle.frame.specs.Heads.{inside, placeOf}
+use Rattle.head.specs.Heads.{inside, placeOf}
+use Rattle.head.proofs.Places.{place-found}
 use Rattle.frame.specs.Frames.{cellAt, entryFault, entered, unless}
-use Rattle.frame.specs.declared.frames.FrameFault.{FrameFault}
-use Rattle.frame.specs.declared.frames.FrameFault.the-variants as fault
-
--- a cell that the map has, and its place
-pub place-here : (m i j : ℕ) → i < 2 ^ m → j < 2 ^ m → Some (i * 2 ^ m + j) ≡ placeOf m i j
-place-here m i j p q = let e : inside m i j ≡ true = rw (lt-ltb i (2 ^ m) p) (lt-ltb j (2 ^ m) q) in sym (cond-true (inside m i j) (Some (i * 2 ^ m + j)) None e)
-
-pub place-found : (m i j p : ℕ) → Some p ≡ placeOf m i j → (inside m i j ≡ true) × (p ≡ i * 2 ^ m + j)
-place-found m i j p e = by (inside m i j) refl
-  where
-    by : (b : Bool) → inside m i j ≡ b → (inside m i j ≡ true) × (p ≡ i * 2 ^ m + j)
-    by true f = (f, let g = cond-true (inside m i j) (Some (i * 2 ^ m + j)) None f in cc)
-    by false f = absurd (let g = cond-false (inside m i j) (Some (i * 2 ^ m + j)) None f in let z : _≡_ {A = ℕ} 0 1 = cc in omega arith)
+use Rattle.frame.specs.declared.FrameFault.{FrameFault}
+use Rattle.frame.specs.declared.FrameFault.the-variants as fault
 
 -- the answer of `in_span`, which was given the height by its bits
 pub spanned : {h : ℤ} → SFits w32 h → true ≡ inSpan (toZ w32 (ofZ w32 h)) → inSpan h ≡ true

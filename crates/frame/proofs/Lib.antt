@@ -1,3 +1,1 @@
-pub mod Squares
 pub mod Entries
-pub mod Outcomes

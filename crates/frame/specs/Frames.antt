@@ -8,11 +8,11 @@ use Rattle.std.specs.declared.option.Option.{Option}
 use Rattle.std.specs.declared.option.Option.the-variants.{Some, None}
 use Rattle.transform.specs.Transform.{Grid}
 use Rattle.frame.specs.Cells.{inSpan, settled}
-use Rattle.frame.specs.Heads.{inside}
-use Rattle.frame.specs.declared.frames.FrameFault.{FrameFault}
-use Rattle.frame.specs.declared.frames.FrameFault.the-variants as fault
-use Rattle.frame.specs.declared.refusals.Refusal.{Refusal}
-use Rattle.frame.specs.declared.refusals.Refusal.the-variants as refusal
+use Rattle.head.specs.Heads.{inside}
+use Rattle.frame.specs.declared.FrameFault.{FrameFault}
+use Rattle.frame.specs.declared.FrameFault.the-variants as fault
+use Rattle.head.specs.declared.refusals.Refusal.{Refusal}
+use Rattle.head.specs.declared.refusals.Refusal.the-variants as refusal
 
 -- which refusal a fault of a frame is
 abbrev pub refusalOf : FrameFault → Refusal

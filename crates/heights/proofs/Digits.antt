@@ -10,7 +10,7 @@ use lib.Pow.{pow-mono}
 use lib.Count.{leadingZeros}
 use Rattle.std.proofs.shelf.Tests.{cases-lt}
 use Rattle.std.proofs.shelf.Bits.{div-add-mod', leading-length, leading-le, pow-pos}
-use Rattle.frame.proofs.Squares.{place-in, cell-in}
+use Rattle.head.proofs.Squares.{place-in, cell-in}
 use Rattle.transform.specs.Transform.{Grid, gridOf}
 use Rattle.transform.specs.Planes.{Below-planes, PlaneCount}
 use Rattle.heights.specs.Coefficients.{Top}

@@ -17,7 +17,7 @@ use Rattle.std.specs.declared.option.Option.{Option}
 use Rattle.std.specs.declared.option.Option.the-variants.{Some, None}
 use Rattle.frame.specs.Cells.{mayStand, settled}
 use Rattle.frame.specs.Frames.{heightsOf}
-use Rattle.frame.proofs.Squares.{place-in, cell-in}
+use Rattle.head.proofs.Squares.{place-in, cell-in}
 use Rattle.transform.specs.Transform.{On, gridOf, transform, undone}
 use Rattle.transform.specs.Planes.{Span, Below-planes}
 use Rattle.transform.proofs.Levels.{comes-back, transform-local}

@@ -8,7 +8,7 @@ use lib.IntN.{ℤ, pos, natAbs, _+ℤ_, _-ℤ_}
 use mathlib.Core.Logic.{inl, inr}
 use Rattle.std.proofs.shelf.Bits.{pow-add, shl-shr, shr-shr, shr-below}
 use Rattle.std.proofs.shelf.Tests.{lt-ltb, eq-eqb, ne-eqb, cases-bool, cond-true, cond-false}
-use Rattle.frame.specs.Heads.{inside}
+use Rattle.head.specs.Heads.{inside}
 use Rattle.transform.specs.Transform.{Grid, On, firstOf, secondOf, oneOf, unlevels, undone}
 use Rattle.transform.specs.Planes.{Below-planes}
 use Rattle.transform.proofs.Cells.{cell, half-abs}

@@ -5,9 +5,9 @@ use lib.IntN.{ℤ, pos, natAbs}
 use lib.ListN.{length, getD}
 use Rattle.std.specs.Of.Vec.{vec-items}
 use Rattle.frame.specs.Frames.{heightsOf}
-use Rattle.frame.specs.declared.frames.ClosedFrame.{ClosedFrame}
+use Rattle.frame.specs.declared.ClosedFrame.{ClosedFrame}
 use Rattle.transform.specs.Transform.{Grid, On, gridOf, transform, undone}
-use Rattle.heights.specs.declared.coefficients.Coefficients.{Coefficients}
+use Rattle.heights.specs.declared.Coefficients.{Coefficients}
 
 -- the grid that coefficients are
 abbrev pub coefficientsOf : Coefficients → Grid

@@ -4,9 +4,9 @@ use Prim.Native.Nat.{ℕ, _+_, _/_, _%_, _^_}
 use lib.Dec.{leb, ltb}
 use lib.IntN.{ℤ, pos}
 use lib.ListN.{length, getD}
-use Rattle.frame.specs.Heads.{inside}
-use Rattle.frame.specs.declared.refusals.Refusal.{Refusal}
-use Rattle.frame.specs.declared.refusals.Refusal.the-variants as refusal
+use Rattle.head.specs.Heads.{inside}
+use Rattle.head.specs.declared.refusals.Refusal.{Refusal}
+use Rattle.head.specs.declared.refusals.Refusal.the-variants as refusal
 use Rattle.transform.specs.Transform.{Grid, oneOf}
 use Rattle.heights.specs.declared.undoing.ReadFault.{ReadFault}
 use Rattle.heights.specs.declared.undoing.ReadFault.the-variants as fault

@@ -8,7 +8,7 @@ ghost use Rattle.transform.specs.Transform.{On, gridOf, halved, inRows, level a
 ghost use Rattle.transform.specs.Planes.{Below-planes};
 ghost use Rattle.heights.specs.Lines.{Apart, Within, lineAt, linesOf};
 use crate::halving::halve;
-use frame::heads::Shape;
+use head::Shape;
 
 // Halves the pairs of the line at `start`: lows to the front of `line`, differences behind them.
 fn halve_pairs(values: &[i32], start: usize, stride: usize, half: usize, line: &mut [i32])

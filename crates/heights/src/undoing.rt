@@ -6,16 +6,16 @@ ghost use lib.Dec.{leb, ltb};
 ghost use lib.IntN.{ℤ, natAbs, pos};
 ghost use lib.ListN.{getD, length};
 ghost use Rattle.std.specs.declared.option.Option.the-variants.{None, Some};
-ghost use Rattle.frame.specs.Faults.{Answers};
-ghost use Rattle.frame.specs.Heads.{inside};
-ghost use Rattle.frame.specs.declared.heads.Shape.{Shape};
+ghost use Rattle.head.specs.Faults.{Answers};
+ghost use Rattle.head.specs.Heads.{inside};
+ghost use Rattle.head.specs.declared.Shape.{Shape};
 ghost use Rattle.transform.specs.Planes.{Below-planes};
 ghost use Rattle.transform.specs.Transform.{oneOf, undone};
 ghost use Rattle.heights.specs.Reading.{blockOf, drawn, readAt, refusalOf};
 ghost use Rattle.heights.specs.declared.undoing.ReadFault.the-variants.{Buffer, Cell};
 use crate::halving::unhalve;
-use frame::heads::Shape;
-use frame::refusals::Refusal;
+use head::Shape;
+use head::refusals::Refusal;
 
 // Coefficients by row and column. Their meaning is a shape and a grid of numbers below 2^15 in magnitude.
 pub trait CoefficientGrid {

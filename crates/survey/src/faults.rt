@@ -1,8 +1,8 @@
 // Why no survey is printed.
-use frame::refusals::Refusal;
-use frame::refusals::RefusalDebug;
-use frame::refusals::RefusalDisplay;
-use frame::refusals::RefusalPartialEq;
+use head::refusals::Refusal;
+use head::refusals::RefusalDebug;
+use head::refusals::RefusalDisplay;
+use head::refusals::RefusalPartialEq;
 use std::alloc::AllocError;
 use std::fmt;
 

@@ -6,7 +6,7 @@ mod reading;
 use faults::Fault;
 use faults::FaultDisplay;
 use faults::FaultFromAlloc;
-use heights::coefficients::Coefficients;
+use heights::Coefficients;
 use std::io::ReadMethods;
 
 fn read_input(rt: &LibcRuntime) -> Result<Vec<u8>, Fault> {

@@ -2,9 +2,9 @@
 use crate::faults::Fault;
 use crate::faults::FaultFromAlloc;
 use crate::faults::FaultFromFmt;
-use frame::heads::Shape;
-use heights::coefficients::Coefficients;
-use heights::coefficients::CoefficientsGrid;
+use head::Shape;
+use heights::Coefficients;
+use heights::CoefficientsGrid;
 use heights::undoing::map;
 use std::alloc::Global;
 use std::fmt::Write;

@@ -2,12 +2,12 @@
 use crate::faults::Expected;
 use crate::faults::Fault;
 use crate::faults::FaultFromAlloc;
-use frame::frames::ClosedFrame;
-use frame::frames::OpenFrame;
-use frame::frames::RefusalFromFrame;
-use frame::heads::RefusalFromHead;
-use frame::heads::Shape;
-use frame::refusals::Refusal;
+use frame::ClosedFrame;
+use frame::OpenFrame;
+use frame::RefusalFromFrame;
+use head::RefusalFromHead;
+use head::Shape;
+use head::refusals::Refusal;
 use std::alloc::Global;
 
 // The input as text.

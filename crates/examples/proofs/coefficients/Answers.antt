@@ -2,8 +2,8 @@ use borrow.Author.Needs.{needs}
 use mathlib.Core.Path.{_≡_, refl, sym, ap, _∙_}
 use Rattle.std.proofs.shelf.Results.{made-weaker}
 use Rattle.std.specs.Of.Vec.{vec-items}
-use Rattle.frame.specs.Heads.{shapeFault}
-use Rattle.frame.proofs.Outcomes.{answers-value}
+use Rattle.head.specs.Heads.{shapeFault}
+use Rattle.head.proofs.Outcomes.{answers-value}
 use Rattle.heights.specs.Coefficients.{Transformed, coefficientsOf}
 use Rattle.transform.specs.Transform.{On}
 use Rattle.examples.specs.Worked.{coefficients2}

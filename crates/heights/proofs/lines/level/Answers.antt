@@ -3,7 +3,7 @@ use mathlib.Core.Path.{_≡_}
 use Prim.Native.Nat.{_*_, _^_, _≤_}
 use lib.ListN.{length}
 use Rattle.std.proofs.shelf.Bits.{pow-pos}
-use Rattle.frame.proofs.Squares.{area}
+use Rattle.head.proofs.Squares.{area}
 use Rattle.heights.proofs.Strides.{rows-apart, columns-apart, rows-within, columns-within, rows-fit, columns-fit, level-made}
 use Rattle.heights.proofs.lines.level.Needs as need
 

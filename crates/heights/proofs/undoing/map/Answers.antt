@@ -4,7 +4,7 @@ use native.Mathlib.Omega.{arith}
 use Prim.Native.Nat.{ℕ, _^_, _<_, _≤_}
 use lib.ListN.{length}
 use Rattle.std.proofs.shelf.Tests.{cond-true, cond-false, le-leb, lt-leb}
-use Rattle.frame.proofs.Squares.{cell-in}
+use Rattle.head.proofs.Squares.{cell-in}
 use Rattle.transform.specs.Transform.{Grid, undone}
 use Rattle.heights.proofs.Drawing.{filled-more, filled-all, not-drawn}
 use Rattle.heights.proofs.undoing.map.Needs as need
