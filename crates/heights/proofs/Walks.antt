@@ -30,13 +30,6 @@ read-in m g i j p q = let e : inside m i j ≡ true = rw (lt-ltb i (2 ^ m) p) (l
 pub read-small : (m : ℕ) (g : Grid) (i j : ℕ) (r : ℤ) → Below-planes m g 15 → i < 2 ^ m → j < 2 ^ m → r ≡ readAt m g i j → (r ≡ g i j) × (natAbs r ≤ 32767)
 read-small m g i j r small p q e = let f : r ≡ g i j = e ∙ read-in m g i j p q in (f, rw f (let s = small i j p q in omega arith))
 
--- the three differences of a block
-pub block-read : (m h i j : ℕ) (g : Grid) (below beside across : ℤ) → Below-planes m g 15 → 2 * h ≤ 2 ^ m → i < 2 * h → j < 2 * h →
-    below ≡ readAt m g (h + i / 2) (j / 2) → beside ≡ readAt m g (i / 2) (h + j / 2) → across ≡ readAt m g (h + i / 2) (h + j / 2) →
-    ((below ≡ g (h + i / 2) (j / 2)) × (natAbs below ≤ 32767)) × ((beside ≡ g (i / 2) (h + j / 2)) × (natAbs beside ≤ 32767)) × ((across ≡ g (h + i / 2) (h + j / 2)) × (natAbs across ≤ 32767))
-block-read m h i j g below beside across small le p q a b c =
-    (read-small m g (h + i / 2) (j / 2) below small (omega arith) (omega arith) a, read-small m g (i / 2) (h + j / 2) beside small (omega arith) (omega arith) b, read-small m g (h + i / 2) (h + j / 2) across small (omega arith) (omega arith) c)
-
 -- With t levels still to undo, v is the height of the square that the cell lies in.
 pub record Walked (m k row column : ℕ) (g : Grid) (t : ℕ) (v : ℤ) : Type 0 where
   pub here : v ≡ unlevels (k - t) (2 ^ (m - t)) g (row / 2 ^ t) (column / 2 ^ t)

@@ -1,13 +1,15 @@
 use mathlib.Core.Bool.{cond, _&&_}
 use mathlib.Core.List.{List}
-use Prim.Native.Nat.{ℕ, _+_, _/_, _%_, _^_}
+use mathlib.Core.Path.{_≡_}
+use Prim.Native.Nat.{ℕ, _+_, _/_, _%_, _^_, _≤_}
 use lib.Dec.{leb, ltb}
-use lib.IntN.{ℤ, pos}
+use lib.IntN.{ℤ, pos, natAbs}
 use lib.ListN.{length, getD}
 use Rattle.head.specs.Heads.{inside}
 use Rattle.head.specs.declared.refusals.Refusal.{Refusal}
 use Rattle.head.specs.declared.refusals.Refusal.the-variants as refusal
 use Rattle.transform.specs.Transform.{Grid, oneOf}
+use Rattle.heights.specs.declared.undoing.Differences.{Differences}
 use Rattle.heights.specs.declared.undoing.ReadFault.{ReadFault}
 use Rattle.heights.specs.declared.undoing.ReadFault.the-variants as fault
 
@@ -20,7 +22,16 @@ refusalOf fault.Buffer = refusal.Buffer
 abbrev pub readAt : ℕ → Grid → ℕ → ℕ → ℤ
 readAt m g row column = cond (inside m row column) (g row column) (pos 0)
 
--- A cell of a block of four, from the block's low and its three differences, the coefficients below, beside and across it in squares of side h.
+-- The differences of a cell's block: the coefficients below, beside and across its low, which lie in squares of side h. They have at most 15 planes.
+pub record DifferencesAt (h : ℕ) (g : Grid) (row column : ℕ) (d : Differences) : Type 0 where
+  pub below : d .below ≡ g (h + row / 2) (column / 2)
+  pub beside : d .beside ≡ g (row / 2) (h + column / 2)
+  pub across : d .across ≡ g (h + row / 2) (h + column / 2)
+  pub below-small : natAbs (d .below) ≤ 32767
+  pub beside-small : natAbs (d .beside) ≤ 32767
+  pub across-small : natAbs (d .across) ≤ 32767
+
+-- A cell of a block of four, from the block's low and its differences.
 abbrev pub blockOf : ℕ → Grid → ℤ → ℕ → ℕ → ℤ
 blockOf h g low row column = oneOf column (oneOf row low (g (h + row / 2) (column / 2))) (oneOf row (g (row / 2) (h + column / 2)) (g (h + row / 2) (h + column / 2)))
 

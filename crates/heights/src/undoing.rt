@@ -11,7 +11,7 @@ ghost use Rattle.head.specs.Heads.{inside};
 ghost use Rattle.head.specs.declared.Shape.{Shape};
 ghost use Rattle.transform.specs.Planes.{Below-planes};
 ghost use Rattle.transform.specs.Transform.{oneOf, undone};
-ghost use Rattle.heights.specs.Reading.{blockOf, drawn, readAt, refusalOf};
+ghost use Rattle.heights.specs.Reading.{DifferencesAt, blockOf, drawn, readAt, refusalOf};
 ghost use Rattle.heights.specs.declared.undoing.ReadFault.the-variants.{Buffer, Cell};
 use crate::halving::unhalve;
 use head::Shape;
@@ -62,7 +62,37 @@ fn one_of(place: usize, low: i32, difference: i32) -> i32
     if place % 2 == 0 { first } else { second }
 }
 
-// One cell of a square whose half side is `half`, from the low above it and the three differences of its block.
+// The three differences of a block of four cells.
+#[derive(Clone, Copy)]
+struct Differences {
+    below: i32,
+    beside: i32,
+    across: i32,
+}
+
+// The differences of the block that a cell lies in, in a square whose half side is `half`.
+fn differences_at<G: CoefficientGrid>(
+    grid: &G,
+    half: usize,
+    row: usize,
+    column: usize,
+) -> Differences
+    requires inner { ⌜ 2 * half ≤ 2 ^ shaped (now grid) .exponent ⌝ }
+    requires row_in { ⌜ row < 2 * half ⌝ }
+    requires column_in { ⌜ column < 2 * half ⌝ }
+    ensures { λ r. ⌜ DifferencesAt half (coefs (now (grid .entry))) row column r ⌝ }
+{
+    let below = grid.coefficient(half + row / 2, column / 2);
+    let beside = grid.coefficient(row / 2, half + column / 2);
+    let across = grid.coefficient(half + row / 2, half + column / 2);
+    Differences {
+        below,
+        beside,
+        across,
+    }
+}
+
+// One cell of a square whose half side is `half`, from the low above it and the differences of its block.
 fn finer<G: CoefficientGrid>(grid: &G, half: usize, row: usize, column: usize, low: i32) -> i32
     requires inner { ⌜ 2 * half ≤ 2 ^ shaped (now grid) .exponent ⌝ }
     requires row_in { ⌜ row < 2 * half ⌝ }
@@ -71,11 +101,9 @@ fn finer<G: CoefficientGrid>(grid: &G, half: usize, row: usize, column: usize, l
     ensures value { λ r. ⌜ r ≡ blockOf half (coefs (now (grid .entry))) low row column ⌝ }
     ensures small { λ r. ⌜ natAbs r ≤ natAbs low + 40960 ⌝ }
 {
-    let below = grid.coefficient(half + row / 2, column / 2);
-    let beside = grid.coefficient(row / 2, half + column / 2);
-    let across = grid.coefficient(half + row / 2, half + column / 2);
-    let left = one_of(row, low, below);
-    let right = one_of(row, beside, across);
+    let block = differences_at(grid, half, row, column);
+    let left = one_of(row, low, block.below);
+    let right = one_of(row, block.beside, block.across);
     one_of(column, left, right)
 }
 

@@ -35,4 +35,4 @@ returns g c =
     let m : ℕ = g .G·CoefficientGrid .shaped (c .args .grid .now) .exponent in
     let a : c .area-area .result ≡ 4 ^ m = c .area-area .ensures .value ∙ ap (λ x. 4 ^ x .exponent) (c .shape-shape .ensures) in
     let l : 4 ^ m ≤ length (c .args .out .now) = omega arith in
-    record { answer = (cond-true _ _ _ (le-leb (4 ^ m) (length (c .args .out .now)) l), tt); heights = filled-all m _ _ _ (c .loop-p .p) (omega arith) l (c .loop-p .inv) }
+    record { answer = (cond-true _ _ _ (le-leb (4 ^ m) (length (c .args .out .now)) l), tt); heights = filled-all m (undone m (g .G·CoefficientGrid .shaped (c .args .grid .now) .levels) (g .G·CoefficientGrid .coefs (c .args .grid .now))) (c .args .out .now) (c .loop-p .out) (c .loop-p .p) (omega arith) l (c .loop-p .inv) }
