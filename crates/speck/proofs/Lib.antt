@@ -1,0 +1,13 @@
+pub mod Lists
+pub mod Possible
+pub mod Geometry
+pub mod Tells
+pub mod Steps
+pub mod Trace
+pub mod Walk
+pub mod Count
+pub mod Upper
+pub mod Fill
+pub mod Final
+pub mod Theorems
+pub mod Arrange

@@ -1,0 +1,88 @@
+-- The receiver: which question comes next, and what an answer does.
+use mathlib.Core.Path.{_≡_}
+use mathlib.Core.List.{List, [], _∷_, _++_}
+use mathlib.Core.Bool.{Bool, true, false, cond}
+use Prim.Native.Nat.{ℕ, zero, suc, _+_, _-_, _*_, _/_, _%_, _^_, _≤_, _<_}
+use lib.IntN.{ℤ, pos, negsuc}
+use Rattle.speck.specs.declared.Part.{Part}
+use Rattle.speck.specs.declared.Part.the-variants.{Block, Rest}
+use Rattle.speck.specs.declared.Found.{Found}
+use Rattle.speck.specs.Grid.{Grid, magnitude, isNegative, signed, upper, outside, View, cell, parts, view, significant}
+use Rattle.speck.specs.Survey.{arranged, refined, odd, bitOf}
+
+pub data State : Type 0 where
+  owing : (n : ℕ) (p : Part) (ps free noes : List Part) (old new : List Found) → State
+  asking : (n : ℕ) (p : Part) (free noes : List Part) (old new : List Found) → State
+  sign : (n : ℕ) (r c : ℕ) (free noes : List Part) (old new : List Found) → State
+  refinement : (n : ℕ) (e : Found) (todo done : List Found) (noes : List Part) (new : List Found) → State
+  finished : (noes : List Part) (old : List Found) → State
+
+pub data Question : Type 0 where
+  significant? : ℕ → Part → Question
+  negative? : ℕ → ℕ → Question
+  bit? : ℕ → Found → Question
+  nothing? : Question
+
+abbrev pub ask : State → Question
+ask (owing n p ps free noes old new) = significant? n p
+ask (asking n p free noes old new) = significant? n p
+ask (sign n r c free noes old new) = negative? r c
+ask (refinement n e todo done noes new) = bit? n e
+ask (finished noes old) = nothing?
+
+abbrev pub answer : Grid → Question → Bool
+answer g (significant? n p) = significant g n p
+answer g (negative? r c) = isNegative (g r c)
+answer g (bit? n e) = bitOf g n e
+answer g nothing? = false
+
+abbrev pub refineOnBy : (List Part → List Found → State) → ℕ → List Found → List Found → List Part → List Found → State
+refineOnBy k n [] done noes new = k noes (done ++ new)
+refineOnBy k n (e ∷ todo) done noes new = refinement n e todo done noes new
+
+abbrev pub goOnBy : (List Part → List Found → State) → ℕ → List Part → List Part → List Found → List Found → State
+goOnBy k n [] noes old new = refineOnBy k n old [] noes new
+goOnBy k n (p ∷ free) noes old new = asking n p free noes old new
+
+-- n planes are open, and none of them is begun
+unfoldable pub enterPlane : ℕ → List Part → List Found → State
+enterPlane zero w f = finished w f
+enterPlane (suc n) w f = goOnBy (enterPlane n) n (arranged w) [] f []
+
+abbrev pub goOn : ℕ → List Part → List Part → List Found → List Found → State
+goOn n = goOnBy (enterPlane n) n
+
+abbrev pub refineOn : ℕ → List Found → List Found → List Part → List Found → State
+refineOn n = refineOnBy (enterPlane n) n
+
+abbrev pub unfolded : ℕ → View → List Part → List Part → List Found → List Found → State
+unfolded n (cell r c) free noes old new = sign n r c free noes old new
+unfolded n (parts k ks) free noes old new = owing n k ks free noes old new
+
+pub data Next : Type 0 where
+  going : State → Next
+  contradiction : Next
+  surplus : Next
+
+abbrev pub step : State → Bool → Next
+step (owing n p ps free noes old new) true = going (unfolded n (view p) (ps ++ free) noes old new)
+step (owing n p [] free noes old new) false = contradiction
+step (owing n p (p₁ ∷ ps) free noes old new) false = going (owing n p₁ ps free (noes ++ p ∷ []) old new)
+step (asking n p free noes old new) true = going (unfolded n (view p) free noes old new)
+step (asking n p free noes old new) false = going (goOn n free (noes ++ p ∷ []) old new)
+step (sign n r c free noes old new) b = going (goOn n free noes old (new ++ record { row = r; column = c; negative = b; leading = 1 } ∷ []))
+step (refinement n e todo done noes new) b = going (refineOn n todo (done ++ refined e b ∷ []) noes new)
+step (finished noes old) b = surplus
+
+abbrev pub feed : Next → Bool → Next
+feed (going s) b = step s b
+feed contradiction b = contradiction
+feed surplus b = surplus
+
+abbrev pub run : Next → List Bool → Next
+run t [] = t
+run t (b ∷ bs) = run (feed t b) bs
+
+abbrev pub start : ℕ → ℕ → ℕ → State
+start x k zero = finished (Block x 0 0 ∷ outside k x) []
+start x k (suc n) = owing n (Block x 0 0) (outside k x) [] [] [] []
