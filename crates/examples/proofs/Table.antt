@@ -12,6 +12,9 @@ use Rattle.std.proofs.shelf.Tests.{cases-lt}
 use Rattle.std.specs.declared.option.Option.{Option}
 use Rattle.std.specs.declared.option.Option.the-variants.{Some, None}
 use Rattle.frame.specs.Frames.{entered, heightsOf}
+use Rattle.speck.specs.Grid.{significant}
+use Rattle.speck.specs.Machine.{enterPlane}
+use Rattle.speck.specs.Survey.{arranged, askPart, insert}
 use Rattle.transform.specs.Transform.{Grid, On, halved, level, levels, partOf, transform}
 use Rattle.transform.specs.Planes.{Below-planes, PlaneCount}
 use Rattle.transform.specs.Errors.{boundOf, driftOf}
@@ -68,7 +71,7 @@ unfolding transform
 zeros-planes m k = record { enough = λ i j p q. rw (ap (λ u. u i j) (levels-zeros k (2 ^ m))) (omega arith); least = λ n h. omega arith }
 
 pub worked : Worked-examples
-unfolding boundOf driftOf
+unfolding boundOf driftOf arranged insert askPart significant enterPlane
 worked = record {
   halving-low = refl;
   halving-difference = refl;
@@ -79,6 +82,13 @@ worked = record {
   bound-one-closed = refl;
   bound-two-closed = refl;
   bound-closed = refl;
+  survey-of-map = refl;
+  survey-of-zeros = λ x k. refl;
+  first-no-is-taken = refl;
+  second-no-contradicts = refl;
+  fourth-no-is-taken = refl;
+  fifth-no-contradicts = refl;
+  survey-of-grid8 = refl;
 }
 
 -- the four cells as they are told

@@ -8,9 +8,8 @@ use native.Mathlib.Nat.{zero-add, add-zero}
 use native.Mathlib.Omega.{arith}
 use Rattle.speck.specs.declared.Part.{Part}
 use Rattle.speck.specs.declared.Part.the-variants.{Block, Rest}
-use Rattle.speck.specs.declared.Found.{Found}
 use Rattle.speck.specs.Grid.{Grid, outside, View, cell, parts, view, inside, coverage, square}
-use Rattle.speck.specs.Survey.{arranged, refined, digit}
+use Rattle.speck.specs.Survey.{Found, arranged, refined, digit}
 use Rattle.speck.specs.Machine.{State, owing, asking, sign, refinement, finished, refineOnBy, goOnBy, enterPlane, goOn, refineOn, unfolded, step, Next, going, contradiction, surplus, run, feed, start}
 use Rattle.speck.proofs.Lists.{coverage-++, coverage-arrange}
 use Rattle.speck.proofs.Geometry.{Made, made, whole}

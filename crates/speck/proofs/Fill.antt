@@ -11,7 +11,7 @@ use lib.Pow.{pow-pos, pow-mono}
 use Rattle.std.proofs.shelf.Tests.{cases-lt, false≢true, and-parts, and-from, eqb-true, eq-eqb}
 use Rattle.speck.specs.declared.Part.{Part}
 use Rattle.speck.specs.declared.Part.the-variants.{Block, Rest}
-use Rattle.speck.specs.declared.Found.{Found}
+use Rattle.speck.specs.Survey.{Found}
 use Rattle.speck.specs.Grid.{Grid, magnitude, isNegative, signed, upper, outside, View, cell, parts, view, significant, inside, coverage, square}
 use Rattle.speck.specs.Machine.{State, owing, asking, sign, refinement, finished}
 use Rattle.speck.specs.Receiver.{value, isAt, lookup, known, openPlanes}
@@ -51,9 +51,10 @@ value-fits g n e h q = record { size = ap (λ z. upper n (magnitude z)) q ∙ (a
 
 fits-seek : (g : Grid) (n : ℕ) (es : List Found) (d : ℕ → ℕ → ℤ) → Some es → ((i j : ℕ) → cnt es i j ≤ 1) → ((i j : ℕ) → 0 < cnt es i j → g i j ≡ lookup n es (d i j) i j) → Known g n es
 fits-seek g n [] d s u h = tt
-fits-seek g n (e ∷ es) d s u h =
-    (value-fits g n e (s .0) (rw (here-self e) at (h (e .row) (e .column) (omega (arith, one-in (e .row) (e .column))))),
-     fits-seek g n es d (s .1) (λ i j. omega (arith, u i j)) (λ i j x. rw (at-off e i j (omega (arith, u i j))) at (h i j (omega arith))))
+fits-seek g n (e ∷ es) d s u h = (
+  value-fits g n e (s .0) (rw (here-self e) at (h (e .row) (e .column) (omega (arith, one-in (e .row) (e .column))))),
+  fits-seek g n es d (s .1) (λ i j. omega (arith, u i j)) (λ i j x. rw (at-off e i j (omega (arith, u i j))) at (h i j (omega arith))),
+)
 
 upper-nil : (n : ℕ) → upper n 0 ≡ 0
 upper-nil n = none-upper n 0 (pow-pos n)
@@ -64,7 +65,8 @@ base-fill g n asks noes old new so sn u f q z =
       waits = q;
       calm = z;
       known = fits-seek g (suc n) old (λ i j. lookup n new (pos 0) i j) so (λ i j. omega (arith, u i j)) (λ i j h. f i j (omega arith));
-      fresh = fits-seek g n new (λ i j. pos 0) sn (λ i j. omega (arith, u i j)) (λ i j h. f i j (omega arith) ∙ seek-miss (suc n) old _ i j (omega (arith, u i j))) }
+      fresh = fits-seek g n new (λ i j. pos 0) sn (λ i j. omega (arith, u i j)) (λ i j h. f i j (omega arith) ∙ seek-miss (suc n) old _ i j (omega (arith, u i j)));
+    }
 
 -- a cell that is not found reads 0
 unread : (n m : ℕ) (old new : List Found) (i j : ℕ) → cnt old i j + cnt new i j ≡ 0 → lookup m old (lookup n new (pos 0) i j) i j ≡ pos 0
@@ -97,6 +99,7 @@ has = part-ind Has one more
   where
     one : (r c : ℕ) → Has (Block 0 r c)
     one r c = record { row = r; column = c; there = omega (arith, one-in r c) }
+
     more : (p k : Part) (ks : List Part) → view p ≡ parts k ks → Each Has (k ∷ ks) → Has p
     more p k ks e h =
         let m : Made p (parts k ks) = subst (Made p) e (made p) in
@@ -119,45 +122,55 @@ put-base n r c asks noes old new so sn u z =
   where
     g₀ : Grid
     g₀ = λ i j. lookup (suc n) old (lookup n new (pos 0) i j) i j
+
     g : Grid
     g = put r c (pos (2 ^ n)) g₀
+
     clear : (i j : ℕ) → 0 < coverage noes i j + (cnt old i j + cnt new i j) → r ≡ i → c ≡ j → ⊥
     clear i j h a b =
         let k : 0 < coverage noes r c + (cnt old r c + cnt new r c) = rw (a, b) h in
         omega arith
+
     reads : (i j : ℕ) → 0 < cnt old i j + cnt new i j → g i j ≡ g₀ i j
     reads i j h = put-cases r c (pos (2 ^ n)) g₀ i j (λ v. v ≡ g₀ i j) (λ a b. absurd (clear i j (omega arith) a b)) refl
+
     quiet : Insignificant g (suc n) asks
     quiet i j h = put-cases r c (pos (2 ^ n)) g₀ i j (λ v. upper (suc n) (magnitude v) ≡ 0) (λ a b. none-upper (suc n) (2 ^ n) (omega (arith, pow-pos n))) (rw (unread n (suc n) old new i j (omega (arith, u i j))) (upper-nil (suc n)))
+
     calm : Insignificant g n noes
     calm i j h = put-cases r c (pos (2 ^ n)) g₀ i j (λ v. upper n (magnitude v) ≡ 0) (λ a b. absurd (clear i j (omega arith) a b)) (rw (unread n (suc n) old new i j (omega (arith, u i j))) (upper-nil n))
 
 pub filled : (s : State) → Sound s → ((i j : ℕ) → count s i j ≤ 1) → Possible s (fill s)
 unfolding fill
-filled (owing n p ps free noes old new) s u =
-    (put-base n r c (p ∷ ps ++ free) noes old new (s .0) (s .1) (λ i j. omega (arith, u i j, coverage-++ ps free i j)) (omega (arith, u r c, has p .there)),
-     record { row = r; column = c; there = omega (arith, has p .there); big = rw (put-same r c (pos (2 ^ n)) (known (owing n p ps free noes old new)), top-upper n) (omega arith) })
+filled (owing n p ps free noes old new) s u = (
+  put-base n r c (p ∷ ps ++ free) noes old new (s .0) (s .1) (λ i j. omega (arith, u i j, coverage-++ ps free i j)) (omega (arith, u r c, has p .there)),
+  record { row = r; column = c; there = omega (arith, has p .there); big = rw (put-same r c (pos (2 ^ n)) (known (owing n p ps free noes old new)), top-upper n) (omega arith) },
+)
   where
     r : ℕ
     r = has p .row
+
     c : ℕ
     c = has p .column
 filled (asking n p free noes old new) s u =
     base-fill _ n (p ∷ free) noes old new (s .0) (s .1) (λ i j. omega (arith, u i j)) (λ i j h. refl)
     (λ i j h. rw (unread n (suc n) old new i j (omega (arith, u i j))) (upper-nil (suc n)))
     (λ i j h. rw (unread n (suc n) old new i j (omega (arith, u i j))) (upper-nil n))
-filled (sign n r c free noes old new) s u =
-    (put-base n r c free noes old new (s .0) (s .1) (λ i j. omega (arith, u i j)) (omega (arith, u r c, one-in r c)),
-     rw (put-same r c (pos (2 ^ n)) (known (sign n r c free noes old new))) (top-upper n))
+filled (sign n r c free noes old new) s u = (
+  put-base n r c free noes old new (s .0) (s .1) (λ i j. omega (arith, u i j)) (omega (arith, u r c, one-in r c)),
+  rw (put-same r c (pos (2 ^ n)) (known (sign n r c free noes old new))) (top-upper n),
+)
 filled (refinement n e todo done noes new) s u =
     record {
       calm = λ i j h. rw (read0 i j (omega (arith, u i j))) (upper-nil n);
       known = fits-seek g (suc n) (e ∷ todo) (λ i j. lookup n done (lookup n new (pos 0) i j) i j) (s .0) (λ i j. omega (arith, u i j)) (λ i j h. refl);
       refined = fits-seek g n done (λ i j. lookup n new (pos 0) i j) (s .1) (λ i j. omega (arith, u i j)) (λ i j h. seek-miss (suc n) (e ∷ todo) _ i j (omega (arith, u i j)));
-      fresh = fits-seek g n new (λ i j. pos 0) (s .2) (λ i j. omega (arith, u i j)) (λ i j h. seek-miss (suc n) (e ∷ todo) _ i j (omega (arith, u i j)) ∙ seek-miss n done _ i j (omega (arith, u i j))) }
+      fresh = fits-seek g n new (λ i j. pos 0) (s .2) (λ i j. omega (arith, u i j)) (λ i j h. seek-miss (suc n) (e ∷ todo) _ i j (omega (arith, u i j)) ∙ seek-miss n done _ i j (omega (arith, u i j)));
+    }
   where
     g : Grid
     g = known (refinement n e todo done noes new)
+
     read0 : (i j : ℕ) → cnt (e ∷ todo) i j + (cnt done i j + cnt new i j) ≡ 0 → g i j ≡ pos 0
     read0 i j z = seek-miss (suc n) (e ∷ todo) _ i j (omega arith) ∙ (seek-miss n done _ i j (omega arith) ∙ seek-miss n new _ i j (omega arith))
 filled (finished noes old) s u =

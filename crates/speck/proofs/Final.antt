@@ -13,9 +13,8 @@ use Rattle.std.proofs.shelf.Signed.{ints}
 use Rattle.std.proofs.shelf.Ways.{tells as tests}
 use Rattle.speck.specs.declared.Part.{Part}
 use Rattle.speck.specs.declared.Part.the-variants.{Block, Rest}
-use Rattle.speck.specs.declared.Found.{Found}
 use Rattle.speck.specs.Grid.{Grid, magnitude, isNegative, signed, upper, outside, View, cell, parts, view, significant, inside, coverage, anySignificant, significantCell, square}
-use Rattle.speck.specs.Survey.{arranged, insert, before, refined, odd, bitOf, digit, survey}
+use Rattle.speck.specs.Survey.{Found, arranged, insert, before, refined, odd, bitOf, digit, survey}
 use Rattle.speck.specs.Machine.{State, owing, asking, sign, refinement, finished, ask, answer, refineOnBy, goOnBy, enterPlane, goOn, refineOn, unfolded, step, Next, going, contradiction, surplus, run, feed, start}
 use Rattle.speck.specs.Receiver.{value, isAt, lookup, known, openPlanes, InGrid, Top, Headed, Prefix, Survey-gives-grid, Whole-is-survey, Near-after-every-bit, Can-become-survey}
 use Rattle.speck.proofs.Lists.{coverage-++, coverage-arrange}
@@ -77,8 +76,8 @@ near-base : (g : Grid) (n : ℕ) (asks noes : List Part) (old new : List Found) 
 near-base g n asks noes old new b i j more m e =
     let P : ℤ → Type 0 = λ v. magnitude (v -ℤ g i j) < 2 ^ suc n in
     seek-cases g (suc n) old (b .known) _ i j P (close g (suc n) (suc n) (omega arith) i j) (λ o.
-      seek-cases g n new (b .fresh) _ i j P (close g n (suc n) (omega arith) i j) (λ w.
-        at-no o w (cases-lt 0 (coverage noes i j)) (cases-lt 0 more)))
+    seek-cases g n new (b .fresh) _ i j P (close g n (suc n) (omega arith) i j) (λ w.
+    at-no o w (cases-lt 0 (coverage noes i j)) (cases-lt 0 more)))
   where
     at-no : cnt old i j ≡ 0 → cnt new i j ≡ 0 → (0 < coverage noes i j) ⊎ (coverage noes i j ≤ 0) → (0 < more) ⊎ (more ≤ 0) → magnitude (pos 0 -ℤ g i j) < 2 ^ suc n
     at-no o w (inl x) y = from g n (suc n) (omega arith) noes (b .calm) i j x
@@ -89,9 +88,9 @@ near-turn : (g : Grid) (n : ℕ) (todo done : List Found) (noes : List Part) (ne
 near-turn g n todo done noes new t i j e =
     let P : ℤ → Type 0 = λ v. magnitude (v -ℤ g i j) < 2 ^ suc n in
     seek-cases g (suc n) todo (t .known) _ i j P (close g (suc n) (suc n) (omega arith) i j) (λ o.
-      seek-cases g n done (t .refined) _ i j P (close g n (suc n) (omega arith) i j) (λ u.
-        seek-cases g n new (t .fresh) _ i j P (close g n (suc n) (omega arith) i j) (λ w.
-          from g n (suc n) (omega arith) noes (t .calm) i j (omega arith))))
+    seek-cases g n done (t .refined) _ i j P (close g n (suc n) (omega arith) i j) (λ u.
+    seek-cases g n new (t .fresh) _ i j P (close g n (suc n) (omega arith) i j) (λ w.
+    from g n (suc n) (omega arith) noes (t .calm) i j (omega arith))))
 
 near-over : (g : Grid) (noes : List Part) (old : List Found) → Over g 0 noes old → (i j : ℕ) → coverage noes i j + cnt old i j ≡ 1 → magnitude (lookup 0 old (pos 0) i j -ℤ g i j) < 2 ^ 0
 near-over g noes old t i j e =

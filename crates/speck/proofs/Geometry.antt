@@ -12,7 +12,7 @@ use lib.IntN.{ℤ, pos, negsuc}
 use Rattle.std.proofs.shelf.Ways.{tells}
 use Rattle.speck.specs.declared.Part.{Part}
 use Rattle.speck.specs.declared.Part.the-variants.{Block, Rest}
-use Rattle.speck.specs.declared.Found.{Found}
+use Rattle.speck.specs.Survey.{Found}
 use Rattle.speck.specs.Grid.{Grid, magnitude, isNegative, signed, upper, outside, View, cell, parts, view, significant, inside, coverage, span, square, anySignificant, significantCell}
 
 span-split : (a w i : ℕ) → span a (w + w) i ≡ span a w i + span (a + w) w i

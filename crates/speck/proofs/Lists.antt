@@ -9,9 +9,8 @@ use native.Mathlib.Nat.{add-assoc, zero-add, add-zero}
 use lib.IntN.{ℤ, pos, negsuc}
 use Rattle.speck.specs.declared.Part.{Part}
 use Rattle.speck.specs.declared.Part.the-variants.{Block, Rest}
-use Rattle.speck.specs.declared.Found.{Found}
 use Rattle.speck.specs.Grid.{Grid, magnitude, isNegative, signed, upper, outside, View, cell, parts, view, significant, inside, coverage}
-use Rattle.speck.specs.Survey.{arranged, insert, before, refined, odd, bitOf, digit}
+use Rattle.speck.specs.Survey.{Found, arranged, insert, before, refined, odd, bitOf, digit}
 
 pub coverage-++ : (xs ys : List Part) (i j : ℕ) → coverage (xs ++ ys) i j ≡ coverage xs i j + coverage ys i j
 coverage-++ [] ys i j = sym (zero-add (coverage ys i j))

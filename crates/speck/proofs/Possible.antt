@@ -8,9 +8,8 @@ use native.Mathlib.Omega.{arith}
 use lib.IntN.{ℤ, pos, negsuc}
 use Rattle.speck.specs.declared.Part.{Part}
 use Rattle.speck.specs.declared.Part.the-variants.{Block, Rest}
-use Rattle.speck.specs.declared.Found.{Found}
 use Rattle.speck.specs.Grid.{Grid, magnitude, isNegative, signed, upper, outside, View, cell, parts, view, significant, inside, coverage}
-use Rattle.speck.specs.Survey.{arranged, insert, before, refined, odd, bitOf, digit}
+use Rattle.speck.specs.Survey.{Found, arranged, insert, before, refined, odd, bitOf, digit}
 use Rattle.speck.specs.Machine.{State, owing, asking, sign, refinement, finished, ask, answer, refineOnBy, goOnBy, enterPlane, goOn, refineOn, unfolded, step, Next, going, contradiction, surplus, run, feed, start}
 use Rattle.speck.proofs.Lists.{coverage-++, coverage-arrange}
 

@@ -11,9 +11,8 @@ use Rattle.std.proofs.shelf.Tests.{cases-lt}
 use Rattle.std.proofs.shelf.Ways.{tells as tests}
 use Rattle.speck.specs.declared.Part.{Part}
 use Rattle.speck.specs.declared.Part.the-variants.{Block, Rest}
-use Rattle.speck.specs.declared.Found.{Found}
 use Rattle.speck.specs.Grid.{Grid, magnitude, isNegative, signed, upper, outside, View, cell, parts, view, significant, inside, coverage, anySignificant, significantCell}
-use Rattle.speck.specs.Survey.{arranged, insert, before, refined, odd, bitOf, digit}
+use Rattle.speck.specs.Survey.{Found, arranged, insert, before, refined, odd, bitOf, digit}
 use Rattle.speck.specs.Machine.{State, owing, asking, sign, refinement, finished, ask, answer, refineOnBy, goOnBy, enterPlane, goOn, refineOn, unfolded, step, Next, going, contradiction, surplus, run, feed, start}
 use Rattle.speck.proofs.Lists.{coverage-++, coverage-arrange}
 use Rattle.speck.proofs.Possible.{Insignificant, Significant, Fits, Known, Known-++, Known-left, Known-right, Base, Turn, Over, Possible, enter-in, enter-out, turnBy-in, turnBy-out, goBy-in, goBy-out}
@@ -39,20 +38,23 @@ yes-in g n p (cell r c) m free noes old new b l =
     let z : upper (suc n) (magnitude (g r c)) ≡ 0 = b .waits r c (omega (arith, m .0)) in
     let y : 0 < upper n (magnitude (g r c)) = rw (q .0, q .1) at (l .big) in
     (record { waits = λ i j h. b .waits i j (omega arith); calm = b .calm; known = b .known; fresh = b .fresh }, omega arith)
-yes-in g n p (parts k ks) m free noes old new b l =
-    (record { waits = λ i j h. b .waits i j (omega (arith, m i j, coverage-++ ks free i j)); calm = b .calm; known = b .known; fresh = b .fresh },
-     record { row = l .row; column = l .column; there = omega (arith, l .there, m (l .row) (l .column)); big = l .big })
+yes-in g n p (parts k ks) m free noes old new b l = (
+  record { waits = λ i j h. b .waits i j (omega (arith, m i j, coverage-++ ks free i j)); calm = b .calm; known = b .known; fresh = b .fresh },
+  record { row = l .row; column = l .column; there = omega (arith, l .there, m (l .row) (l .column)); big = l .big },
+)
 
 yes-out : (g : Grid) (n : ℕ) (p : Part) (v : View) → Made p v → (free noes : List Part) (old new : List Found) → Possible (unfolded n v free noes old new) g → Base g n (p ∷ free) noes old new × Significant g n (p ∷ [])
-yes-out g n p (cell r c) m free noes old new s =
-    (record { waits = split-insignificant g (suc n) p free quiet (s .0 .waits); calm = s .0 .calm; known = s .0 .known; fresh = s .0 .fresh },
-     record { row = r; column = c; there = omega (arith, m .0); big = omega (arith, s .1) })
+yes-out g n p (cell r c) m free noes old new s = (
+  record { waits = split-insignificant g (suc n) p free quiet (s .0 .waits); calm = s .0 .calm; known = s .0 .known; fresh = s .0 .fresh },
+  record { row = r; column = c; there = omega (arith, m .0); big = omega (arith, s .1) },
+)
   where
     quiet : Insignificant g (suc n) (p ∷ [])
     quiet i j h = let q = m .1 i j (omega arith) in rw (q .0, q .1) (omega (arith, s .1))
-yes-out g n p (parts k ks) m free noes old new s =
-    (record { waits = λ i j h. s .0 .waits i j (omega (arith, m i j, coverage-++ ks free i j)); calm = s .0 .calm; known = s .0 .known; fresh = s .0 .fresh },
-     record { row = s .1 .row; column = s .1 .column; there = omega (arith, s .1 .there, m (s .1 .row) (s .1 .column)); big = s .1 .big })
+yes-out g n p (parts k ks) m free noes old new s = (
+  record { waits = λ i j h. s .0 .waits i j (omega (arith, m i j, coverage-++ ks free i j)); calm = s .0 .calm; known = s .0 .known; fresh = s .0 .fresh },
+  record { row = s .1 .row; column = s .1 .column; there = omega (arith, s .1 .there, m (s .1 .row) (s .1 .column)); big = s .1 .big },
+)
 
 -- a no
 push-insignificant : (g : Grid) (n : ℕ) (noes : List Part) (p : Part) → Insignificant g n noes → Insignificant g n (p ∷ []) → Insignificant g n (noes ++ p ∷ [])
@@ -104,6 +106,7 @@ bit-out g n e b f = (record { size = half (upper n (magnitude (g (e .row) (e .co
     half : (x v : ℕ) (b : Bool) → x ≡ 2 * v + digit b → x / 2 ≡ v
     half x v true h = omega arith
     half x v false h = omega arith
+
     last : (x v : ℕ) (b : Bool) → x ≡ 2 * v + digit b → odd x ≡ b
     last x v true h = grind (arith, tests)
     last x v false h = grind (arith, tests)

@@ -10,7 +10,7 @@ use lib.IntN.{ℤ, pos, negsuc}
 use Rattle.std.proofs.shelf.Tests.{or-cases, or-parts, ltb-true, ltb-false, both-ways, false≢true, cases-lt}
 use Rattle.speck.specs.declared.Part.{Part}
 use Rattle.speck.specs.declared.Part.the-variants.{Block, Rest}
-use Rattle.speck.specs.declared.Found.{Found}
+use Rattle.speck.specs.Survey.{Found}
 use Rattle.speck.specs.Grid.{Grid, magnitude, isNegative, signed, upper, outside, View, cell, parts, view, significant, inside, coverage, anySignificant, significantCell}
 use Rattle.speck.proofs.Possible.{Insignificant, Significant}
 use Rattle.speck.proofs.Geometry.{Made, made, Each, part-ind, LoudBy, significant-by, significant-cell}
@@ -46,8 +46,10 @@ tells-one g n r c = record { yes! = y; no! = z }
   where
     m : Made (Block 0 r c) (cell r c)
     m = made (Block 0 r c)
+
     y : significant g n (Block 0 r c) ≡ true → Significant g n (Block 0 r c ∷ [])
     y e = record { row = r; column = c; there = omega (arith, m .0); big = ltb-true 0 (upper n (magnitude (g r c))) (sym (significant-cell g n r c) ∙ e) }
+
     z : significant g n (Block 0 r c) ≡ false → Insignificant g n (Block 0 r c ∷ [])
     z e i j h =
         let q = m .1 i j (omega arith) in
@@ -59,10 +61,13 @@ tells-more g n p k ks e t = record { yes! = y; no! = z }
   where
     m : Made p (parts k ks)
     m = subst (Made p) e (made p)
+
     b : LoudBy g n p (parts k ks)
     b = subst (LoudBy g n p) e (significant-by g n p)
+
     y : significant g n p ≡ true → Significant g n (p ∷ [])
     y h = let l = any-true g n (k ∷ ks) t (sym b ∙ h) in record { row = l .row; column = l .column; there = omega (arith, l .there, m (l .row) (l .column)); big = l .big }
+
     z : significant g n p ≡ false → Insignificant g n (p ∷ [])
     z h i j x = any-false g n (k ∷ ks) t (sym b ∙ h) i j (omega (arith, m i j))
 

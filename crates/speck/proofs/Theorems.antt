@@ -9,9 +9,8 @@ use lib.IntN.{ℤ, pos, negsuc, _-ℤ_}
 use Rattle.std.proofs.shelf.Signed.{ints}
 use Rattle.speck.specs.declared.Part.{Part}
 use Rattle.speck.specs.declared.Part.the-variants.{Block, Rest}
-use Rattle.speck.specs.declared.Found.{Found}
 use Rattle.speck.specs.Grid.{Grid, magnitude, upper, outside, inside, coverage, square}
-use Rattle.speck.specs.Survey.{survey, planes}
+use Rattle.speck.specs.Survey.{Found, survey, planes}
 use Rattle.speck.specs.Machine.{State, owing, asking, sign, refinement, finished, Next, going, contradiction, surplus, run, start}
 use Rattle.speck.specs.Receiver.{known, openPlanes, InGrid, Top, Headed, Prefix, Survey-gives-grid, Whole-is-survey, Near-after-every-bit, Can-become-survey}
 use Rattle.speck.proofs.Lists.{coverage-++}
@@ -29,9 +28,10 @@ use Rattle.speck.proofs.Fill.{fill, filled}
 -- D: the first state allows the grids of the head
 start-in : (x k P : ℕ) (g : Grid) → Headed (x + k) P g → Possible (start x k P) g
 start-in x k zero g h = record { calm = λ i j c. none-upper 0 (magnitude (g i j)) (h .below i j (record { row = square-row (x + k) i j (omega (arith, whole x k i j)); column = square-col (x + k) i j (omega (arith, whole x k i j)) })); known = tt }
-start-in x k (suc n) g h =
-    (record { waits = λ i j c. none-upper (suc n) (magnitude (g i j)) (h .below i j (record { row = square-row (x + k) i j (omega (arith, whole x k i j, coverage-++ (outside k x) [] i j)); column = square-col (x + k) i j (omega (arith, whole x k i j, coverage-++ (outside k x) [] i j)) })); calm = λ i j c. absurd (omega arith); known = tt; fresh = tt },
-     let t = h .top in record { row = t .0; column = t .1; there = omega (arith, whole x k (t .0) (t .1), square-in (x + k) (t .0) (t .1) (t .2 .row) (t .2 .column)); big = some-upper n (magnitude (g (t .0) (t .1))) (t .3) })
+start-in x k (suc n) g h = (
+  record { waits = λ i j c. none-upper (suc n) (magnitude (g i j)) (h .below i j (record { row = square-row (x + k) i j (omega (arith, whole x k i j, coverage-++ (outside k x) [] i j)); column = square-col (x + k) i j (omega (arith, whole x k i j, coverage-++ (outside k x) [] i j)) })); calm = λ i j c. absurd (omega arith); known = tt; fresh = tt },
+  let t = h .top in record { row = t .0; column = t .1; there = omega (arith, whole x k (t .0) (t .1), square-in (x + k) (t .0) (t .1) (t .2 .row) (t .2 .column)); big = some-upper n (magnitude (g (t .0) (t .1))) (t .3) },
+)
 
 start-out : (x k P : ℕ) (g : Grid) → Possible (start x k P) g → Headed (x + k) P g
 start-out x k zero g o = record { below = λ i j c. upper-none 0 (magnitude (g i j)) (o .calm i j (omega (arith, whole x k i j, square-in (x + k) i j (c .row) (c .column)))); top = tt }
@@ -39,7 +39,8 @@ start-out x k (suc n) g c =
     let l = c .1 in
     record {
       below = λ i j d. upper-none (suc n) (magnitude (g i j)) (c .0 .waits i j (omega (arith, whole x k i j, coverage-++ (outside k x) [] i j, square-in (x + k) i j (d .row) (d .column))));
-      top = (l .row, l .column, record { row = square-row (x + k) (l .row) (l .column) (omega (arith, l .there, whole x k (l .row) (l .column))); column = square-col (x + k) (l .row) (l .column) (omega (arith, l .there, whole x k (l .row) (l .column))) }, upper-some n (magnitude (g (l .row) (l .column))) (l .big)) }
+      top = (l .row, l .column, record { row = square-row (x + k) (l .row) (l .column) (omega (arith, l .there, whole x k (l .row) (l .column))); column = square-col (x + k) (l .row) (l .column) (omega (arith, l .there, whole x k (l .row) (l .column))) }, upper-some n (magnitude (g (l .row) (l .column))) (l .big));
+    }
 
 -- the survey is a whole run
 surveyed : (x k P : ℕ) (g : Grid) → Possible (start x k P) g → Whole g (survey x k P g) (going (start x k P))
@@ -125,5 +126,5 @@ honest x k P bits (finished w f) e z =
     let c : Possible (start x k P) g = start-in x k P g (b .0) in
     let y = surveyed x k P g c in
     let r : run (going (finished w f)) (b .1 .0) ≡ going (finished (y .waits) (y .finds)) =
-      ap (λ u. run u (b .1 .0)) (sym e) ∙ (sym (run-++ bits (b .1 .0) (going (start x k P))) ∙ (ap (run (going (start x k P))) (b .1 .1) ∙ trace-run g (survey x k P g) _ _ (y .trace))) in
+    ap (λ u. run u (b .1 .0)) (sym e) ∙ (sym (run-++ bits (b .1 .0) (going (start x k P))) ∙ (ap (run (going (start x k P))) (b .1 .1) ∙ trace-run g (survey x k P g) _ _ (y .trace))) in
     (b .0, sym (append-nil bits) ∙ (ap (λ l. bits ++ l) (sym (no-more w f (b .1 .0) _ r)) ∙ b .1 .1))

@@ -10,17 +10,16 @@ use lib.IntN.{ℤ, pos, negsuc}
 use Rattle.std.proofs.shelf.Tests.{false≢true, true≢false}
 use Rattle.speck.specs.declared.Part.{Part}
 use Rattle.speck.specs.declared.Part.the-variants.{Block, Rest}
-use Rattle.speck.specs.declared.Found.{Found}
 use Rattle.speck.specs.Grid.{Grid, magnitude, isNegative, signed, upper, outside, View, cell, parts, view, significant, inside, coverage, anySignificant, significantCell}
-use Rattle.speck.specs.Survey.{arranged, insert, before, refined, odd, bitOf, digit, Outcome, nothing, andThen, noes, foundCell, opened, askPart, askAll, planes, survey}
+use Rattle.speck.specs.Survey.{Found, arranged, insert, before, refined, odd, bitOf, digit, Outcome, nothing, andThen, saidNo, foundCell, opened, askPart, askAll, planes, survey}
 use Rattle.speck.specs.Machine.{State, owing, asking, sign, refinement, finished, ask, answer, refineOnBy, goOnBy, enterPlane, goOn, refineOn, unfolded, step, Next, going, contradiction, surplus, run, feed, start, significant?}
 use Rattle.speck.proofs.Trace.{Trace, trace-++}
 use Rattle.speck.proofs.Geometry.{Each, part-ind, LoudBy, significant-by}
 
 -- what is got of a part, by its view
 abbrev AskBy : Grid → ℕ → Part → View → Type 0
-AskBy g n p (cell r c) = askPart g n p ≡ cond (significant g n p) (foundCell g r c) (noes p)
-AskBy g n p (parts k ks) = askPart g n p ≡ cond (significant g n p) (opened (askAll g n (k ∷ ks))) (noes p)
+AskBy g n p (cell r c) = askPart g n p ≡ cond (significant g n p) (foundCell g r c) (saidNo p)
+AskBy g n p (parts k ks) = askPart g n p ≡ cond (significant g n p) (opened (askAll g n (k ∷ ks))) (saidNo p)
 
 ask-by : (g : Grid) (n : ℕ) (p : Part) → AskBy g n p (view p)
 unfolding askPart
@@ -30,10 +29,10 @@ ask-by g n (Rest zero x) = refl
 ask-by g n (Rest (suc d) x) = refl
 
 -- a no takes one bit
-ask-no : (g : Grid) (n : ℕ) (p : Part) → significant g n p ≡ false → askPart g n p ≡ noes p
+ask-no : (g : Grid) (n : ℕ) (p : Part) → significant g n p ≡ false → askPart g n p ≡ saidNo p
 ask-no g n p e = by (view p) (ask-by g n p)
   where
-    by : (v : View) → AskBy g n p v → askPart g n p ≡ noes p
+    by : (v : View) → AskBy g n p v → askPart g n p ≡ saidNo p
     by (cell r c) h = rw e at h
     by (parts k ks) h = rw e at h
 
@@ -84,7 +83,7 @@ module _ (g : Grid) (n : ℕ) where
   walk-more : (p k : Part) (ks : List Part) → view p ≡ parts k ks → Each Walk (k ∷ ks) → Walk p
   unfolding Walk
   walk-more p k ks e w l s free no₀ old new q h =
-      let a : askPart g n p ≡ cond (significant g n p) (opened (askAll g n (k ∷ ks))) (noes p) = subst (AskBy g n p) e (ask-by g n p) in
+      let a : askPart g n p ≡ cond (significant g n p) (opened (askAll g n (k ∷ ks))) (saidNo p) = subst (AskBy g n p) e (ask-by g n p) in
       let b : significant g n p ≡ anySignificant g n (k ∷ ks) = subst (LoudBy g n p) e (significant-by g n p) in
       rw (a, l) (ap (answer g) q ∙ l, rw (h, e) (must-walk ks k w (sym b ∙ l) free no₀ old new))
 

@@ -1,4 +1,4 @@
--- The receiver: which question comes next, and what an answer does.
+-- The question machine: which question comes next, and what its answer does. Both ends step it.
 use mathlib.Core.Path.{_≡_}
 use mathlib.Core.List.{List, [], _∷_, _++_}
 use mathlib.Core.Bool.{Bool, true, false, cond}
@@ -6,10 +6,11 @@ use Prim.Native.Nat.{ℕ, zero, suc, _+_, _-_, _*_, _/_, _%_, _^_, _≤_, _<_}
 use lib.IntN.{ℤ, pos, negsuc}
 use Rattle.speck.specs.declared.Part.{Part}
 use Rattle.speck.specs.declared.Part.the-variants.{Block, Rest}
-use Rattle.speck.specs.declared.Found.{Found}
 use Rattle.speck.specs.Grid.{Grid, magnitude, isNegative, signed, upper, outside, View, cell, parts, view, significant}
-use Rattle.speck.specs.Survey.{arranged, refined, odd, bitOf}
+use Rattle.speck.specs.Survey.{Found, arranged, refined, odd, bitOf}
 
+-- In plane n: a part of a set that said yes and still owes a yes, with the set's other parts; a part that waited or whose set owes nothing; the sign of a cell that said yes; the bit of a found cell; nothing more to ask.
+-- Beside it stand: `free`, what is to be asked in this plane still; `noes`, what said no in it; `old` and `new`, the cells found before it and in it.
 pub data State : Type 0 where
   owing : (n : ℕ) (p : Part) (ps free noes : List Part) (old new : List Found) → State
   asking : (n : ℕ) (p : Part) (free noes : List Part) (old new : List Found) → State
@@ -17,6 +18,7 @@ pub data State : Type 0 where
   refinement : (n : ℕ) (e : Found) (todo done : List Found) (noes : List Part) (new : List Found) → State
   finished : (noes : List Part) (old : List Found) → State
 
+-- What is asked, and what a grid answers.
 pub data Question : Type 0 where
   significant? : ℕ → Part → Question
   negative? : ℕ → ℕ → Question
@@ -36,6 +38,7 @@ answer g (negative? r c) = isNegative (g r c)
 answer g (bit? n e) = bitOf g n e
 answer g nothing? = false
 
+-- On in plane n: the next part to ask; else the next cell to refine; else the next plane, by k.
 abbrev pub refineOnBy : (List Part → List Found → State) → ℕ → List Found → List Found → List Part → List Found → State
 refineOnBy k n [] done noes new = k noes (done ++ new)
 refineOnBy k n (e ∷ todo) done noes new = refinement n e todo done noes new
@@ -44,7 +47,7 @@ abbrev pub goOnBy : (List Part → List Found → State) → ℕ → List Part �
 goOnBy k n [] noes old new = refineOnBy k n old [] noes new
 goOnBy k n (p ∷ free) noes old new = asking n p free noes old new
 
--- n planes are open, and none of them is begun
+-- The next n planes are all open: the first question of the highest.
 unfoldable pub enterPlane : ℕ → List Part → List Found → State
 enterPlane zero w f = finished w f
 enterPlane (suc n) w f = goOnBy (enterPlane n) n (arranged w) [] f []
@@ -55,10 +58,12 @@ goOn n = goOnBy (enterPlane n) n
 abbrev pub refineOn : ℕ → List Found → List Found → List Part → List Found → State
 refineOn n = refineOnBy (enterPlane n) n
 
+-- After a yes: the sign of a single cell, or the parts of a larger part, of which one has to say yes.
 abbrev pub unfolded : ℕ → View → List Part → List Part → List Found → List Found → State
 unfolded n (cell r c) free noes old new = sign n r c free noes old new
 unfolded n (parts k ks) free noes old new = owing n k ks free noes old new
 
+-- After an answer: a state, or a refusal. A contradiction is the no of the last part of a set that said yes, where all the others said no; a surplus is a bit after the last.
 pub data Next : Type 0 where
   going : State → Next
   contradiction : Next
@@ -74,6 +79,7 @@ step (sign n r c free noes old new) b = going (goOn n free noes old (new ++ reco
 step (refinement n e todo done noes new) b = going (refineOn n todo (done ++ refined e b ∷ []) noes new)
 step (finished noes old) b = surplus
 
+-- A string of answers; after a refusal nothing is taken.
 abbrev pub feed : Next → Bool → Next
 feed (going s) b = step s b
 feed contradiction b = contradiction
@@ -83,6 +89,7 @@ abbrev pub run : Next → List Bool → Next
 run t [] = t
 run t (b ∷ bs) = run (feed t b) bs
 
+-- The opening, for the head of a grid of side 2^(x + k), k levels and P planes. In the top plane the whole grid is a set that said yes, and its parts are the first block and the rest.
 abbrev pub start : ℕ → ℕ → ℕ → State
 start x k zero = finished (Block x 0 0 ∷ outside k x) []
 start x k (suc n) = owing n (Block x 0 0) (outside k x) [] [] [] []
