@@ -69,15 +69,23 @@ pub data Next : Type 0 where
   contradiction : Next
   surplus : Next
 
+-- One answer, where `note` makes the record of a cell whose sign came, and `more` adds a bit to one.
+abbrev pub stepBy : (ℕ → ℕ → Bool → Found) → (Found → Bool → Found) → State → Bool → Next
+stepBy note more (owing n p ps free noes old new) true = going (unfolded n (view p) (ps ++ free) noes old new)
+stepBy note more (owing n p [] free noes old new) false = contradiction
+stepBy note more (owing n p (p₁ ∷ ps) free noes old new) false = going (owing n p₁ ps free (noes ++ p ∷ []) old new)
+stepBy note more (asking n p free noes old new) true = going (unfolded n (view p) free noes old new)
+stepBy note more (asking n p free noes old new) false = going (goOn n free (noes ++ p ∷ []) old new)
+stepBy note more (sign n r c free noes old new) b = going (goOn n free noes old (new ++ note r c b ∷ []))
+stepBy note more (refinement n e todo done noes new) b = going (refineOn n todo (done ++ more e b ∷ []) noes new)
+stepBy note more (finished noes old) b = surplus
+
+-- a cell whose sign came: of its magnitude the highest bit is known
+abbrev pub noted : ℕ → ℕ → Bool → Found
+noted r c b = record { row = r; column = c; negative = b; leading = 1 }
+
 abbrev pub step : State → Bool → Next
-step (owing n p ps free noes old new) true = going (unfolded n (view p) (ps ++ free) noes old new)
-step (owing n p [] free noes old new) false = contradiction
-step (owing n p (p₁ ∷ ps) free noes old new) false = going (owing n p₁ ps free (noes ++ p ∷ []) old new)
-step (asking n p free noes old new) true = going (unfolded n (view p) free noes old new)
-step (asking n p free noes old new) false = going (goOn n free (noes ++ p ∷ []) old new)
-step (sign n r c free noes old new) b = going (goOn n free noes old (new ++ record { row = r; column = c; negative = b; leading = 1 } ∷ []))
-step (refinement n e todo done noes new) b = going (refineOn n todo (done ++ refined e b ∷ []) noes new)
-step (finished noes old) b = surplus
+step s b = stepBy noted refined s b
 
 -- A string of answers; after a refusal nothing is taken.
 abbrev pub feed : Next → Bool → Next
