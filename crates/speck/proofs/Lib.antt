@@ -11,3 +11,4 @@ pub mod Fill
 pub mod Final
 pub mod Theorems
 pub mod Arrange
+pub mod Consequences

@@ -3,6 +3,8 @@ ghost use Prim.Native.Nat.{ℕ, _^_, _<_, _≤_};
 ghost use Rattle.speck.specs.Survey.{isRest, hasSide, refined};
 ghost use Rattle.speck.specs.Receiver.{Survey-gives-grid, Whole-is-survey, Near-after-every-bit, Can-become-survey};
 
+pub mod laws;
+
 pub fn law() -> u8
     ensures { λ _. ⌜ Survey-gives-grid ⌝ ∗ ⌜ Whole-is-survey ⌝ ∗ ⌜ Near-after-every-bit ⌝ ∗ ⌜ Can-become-survey ⌝ }
 {

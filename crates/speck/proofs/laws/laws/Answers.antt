@@ -1,0 +1,10 @@
+use Rattle.speck.proofs.laws.laws.Needs as need
+use Rattle.speck.proofs.Consequences.{refused, one-place, significance, by-parts, one-count}
+
+pub returns : need.returns
+returns c = record {
+    refuses-what-begins-no-survey = refused;
+    each-cell-is-in-one-place = one-place;
+    significance-is-a-large-coefficient = significance;
+    significance-is-that-of-the-quarters = by-parts;
+    a-grid-has-one-plane-count = one-count }
