@@ -12,3 +12,4 @@ pub mod Final
 pub mod Theorems
 pub mod Arrange
 pub mod Consequences
+pub mod Length

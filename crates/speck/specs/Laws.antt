@@ -58,3 +58,7 @@ Significance-by-parts = (g : Grid) (n s r c : ℕ) →
 -- a grid has one number of bit planes
 abbrev pub One-plane-count : Type 0
 One-plane-count = (m : ℕ) (g : Grid) → ((P : ℕ) × Headed m P g) × ((P Q : ℕ) → Headed m P g → Headed m Q g → P ≡ Q)
+
+-- a survey of a grid of side 64 and less, of 15 bit planes and less, has at most 86101 bits
+abbrev pub Survey-length : Type 0
+Survey-length = (x k P : ℕ) (g : Grid) → x + k ≤ 6 → P ≤ 15 → length (survey x k P g) ≤ 86101

@@ -1,4 +1,4 @@
-ghost use Rattle.speck.specs.Laws.{Refused-exactly, One-place, Significance-literal, Significance-by-parts, One-plane-count};
+ghost use Rattle.speck.specs.Laws.{Refused-exactly, One-place, Significance-literal, Significance-by-parts, One-plane-count, Survey-length};
 
 // The laws of the survey: each clause is a theorem about every grid and every string of bits.
 pub fn laws()
@@ -7,5 +7,6 @@ pub fn laws()
     ensures significance_is_a_large_coefficient { λ _. ⌜ Significance-literal ⌝ }
     ensures significance_is_that_of_the_quarters { λ _. ⌜ Significance-by-parts ⌝ }
     ensures a_grid_has_one_plane_count { λ _. ⌜ One-plane-count ⌝ }
+    ensures a_survey_has_at_most_86101_bits { λ _. ⌜ Survey-length ⌝ }
 {
 }

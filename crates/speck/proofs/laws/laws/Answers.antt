@@ -1,5 +1,6 @@
 use Rattle.speck.proofs.laws.laws.Needs as need
 use Rattle.speck.proofs.Consequences.{refused, one-place, significance, by-parts, one-count}
+use Rattle.speck.proofs.Length.{survey-length}
 
 pub returns : need.returns
 returns c = record {
@@ -7,4 +8,5 @@ returns c = record {
     each-cell-is-in-one-place = one-place;
     significance-is-a-large-coefficient = significance;
     significance-is-that-of-the-quarters = by-parts;
-    a-grid-has-one-plane-count = one-count }
+    a-grid-has-one-plane-count = one-count;
+    a-survey-has-at-most-86101-bits = survey-length }
