@@ -1,27 +1,22 @@
--- The laws of the survey, but for its length.
-use mathlib.Core.Path.{_≡_, refl, sym, _∙_, ap, subst}
-use mathlib.Core.List.{List, [], _∷_, _++_}
-use mathlib.Core.Bool.{Bool, true, false, cond, _||_}
+-- What follows: which bits are refused, the place of a cell, significance, the number of bit planes.
+use mathlib.Core.Path.{_≡_, refl, _∙_}
+use mathlib.Core.List.{List, [], _∷_}
+use mathlib.Core.Bool.{Bool, true, false, _||_}
 use mathlib.Core.Logic.{_⊎_, inl, inr}
-use Prim.Native.Nat.{ℕ, zero, suc, _+_, _-_, _*_, _/_, _%_, _^_, _≤_, _<_}
+use Prim.Native.Nat.{ℕ, zero, suc, _+_, _^_, _≤_, _<_}
 use native.Mathlib.Omega.{arith}
-use lib.IntN.{ℤ, pos, negsuc}
-use lib.ListN.{length}
 use lib.Pow.{pow-pos, pow-mono}
 use Rattle.std.proofs.shelf.Tests.{cases-lt, cases-order}
-use Rattle.speck.specs.declared.Part.{Part}
-use Rattle.speck.specs.declared.Part.the-variants.{Block, Rest}
+use Rattle.speck.specs.declared.Part.the-variants.{Block}
 use Rattle.speck.specs.declared.Found.{Found}
-use Rattle.speck.specs.Grid.{Grid, magnitude, upper, significant, significantBlock, inside, coverage, square}
-use Rattle.speck.specs.Survey.{survey}
-use Rattle.speck.specs.Machine.{State, owing, asking, sign, refinement, finished, ask, answer, step, Next, going, contradiction, surplus, run, start}
-use Rattle.speck.specs.Receiver.{openPlanes, InGrid, Top, Headed, Prefix}
-use Rattle.speck.specs.Laws.{Refused-exactly, foundAt, places, One-place, Has-significant, Significance-literal, Significance-by-parts, One-plane-count}
-use Rattle.speck.proofs.Possible.{Insignificant, Significant}
+use Rattle.speck.specs.Grid.{Grid, magnitude, significant, significantBlock, inside, square}
+use Rattle.speck.specs.Machine.{State, owing, asking, sign, refinement, finished}
+use Rattle.speck.specs.Receiver.{InGrid, Headed}
+use Rattle.speck.specs.Laws.{Refused-exactly, foundAt, places, One-place, Significance-literal, Significance-by-parts, One-plane-count}
 use Rattle.speck.proofs.Geometry.{square-in, square-row, square-col}
 use Rattle.speck.proofs.Tells.{tells, says-yes}
 use Rattle.speck.proofs.Count.{count, cnt}
-use Rattle.speck.proofs.Upper.{upper-none, none-upper, upper-some, some-upper}
+use Rattle.speck.proofs.Upper.{upper-none, upper-some, some-upper}
 use Rattle.speck.proofs.Theorems.{near-always, open-always, reached-one}
 
 pub refused : Refused-exactly

@@ -1,8 +1,8 @@
 -- How many bits a survey has at most: by the nodes of the quadtree and the cells.
-use mathlib.Core.Path.{_≡_, refl, sym, _∙_, ap, subst}
+use mathlib.Core.Path.{_≡_, refl, _∙_, ap, subst}
 use mathlib.Core.List.{List, [], _∷_, _++_, map}
 use mathlib.Core.Bool.{Bool, true, false, cond}
-use Prim.Native.Nat.{ℕ, zero, suc, _+_, _-_, _*_, _/_, _%_, _^_, _≤_, _<_}
+use Prim.Native.Nat.{ℕ, zero, suc, _+_, _*_, _≤_}
 use native.Mathlib.Omega.{arith}
 use native.Mathlib.Nat.{suc-mul, zero-mul, add-zero, add-suc, suc-add}
 use lib.ListN.{length, length-append, length-map}
@@ -10,7 +10,7 @@ use Rattle.speck.specs.declared.Part.{Part}
 use Rattle.speck.specs.declared.Part.the-variants.{Block, Rest}
 use Rattle.speck.specs.declared.Found.{Found}
 use Rattle.speck.specs.Grid.{Grid, outside, View, cell, parts, view, significant}
-use Rattle.speck.specs.Survey.{arranged, insert, before, refined, bitOf, Outcome, nothing, andThen, noes, foundCell, opened, askPart, askAll, planes, survey}
+use Rattle.speck.specs.Survey.{arranged, insert, before, refined, bitOf, Outcome, andThen, noes, foundCell, opened, askPart, askAll, planes, survey}
 use Rattle.speck.specs.Laws.{Survey-length}
 use Rattle.speck.proofs.Geometry.{Each, part-ind}
 

@@ -13,3 +13,4 @@ pub mod Theorems
 pub mod Arrange
 pub mod Consequences
 pub mod Length
+pub mod Asking

@@ -1,12 +1,11 @@
 -- Laws of the survey, in the words of the field.
 use mathlib.Core.Path.{_≡_}
-use mathlib.Core.List.{List, [], _∷_, _++_}
-use mathlib.Core.Bool.{Bool, true, false, _||_}
-use Prim.Native.Nat.{ℕ, zero, suc, _+_, _-_, _*_, _/_, _%_, _^_, _≤_, _<_}
-use lib.IntN.{ℤ, pos, negsuc}
+use mathlib.Core.List.{List, [], _∷_}
+use mathlib.Core.Bool.{Bool, true, _||_}
+use Prim.Native.Nat.{ℕ, zero, suc, _+_, _^_, _≤_, _<_}
 use lib.ListN.{length}
 use Rattle.speck.specs.declared.Part.{Part}
-use Rattle.speck.specs.declared.Part.the-variants.{Block, Rest}
+use Rattle.speck.specs.declared.Part.the-variants.{Block}
 use Rattle.speck.specs.declared.Found.{Found}
 use Rattle.speck.specs.Grid.{Grid, magnitude, significant, inside, coverage}
 use Rattle.speck.specs.Survey.{survey}
@@ -62,3 +61,32 @@ One-plane-count = (m : ℕ) (g : Grid) → ((P : ℕ) × Headed m P g) × ((P Q 
 -- a survey of a grid of side 64 and less, of 15 bit planes and less, has at most 86101 bits
 abbrev pub Survey-length : Type 0
 Survey-length = (x k P : ℕ) (g : Grid) → x + k ≤ 6 → P ≤ 15 → length (survey x k P g) ≤ 86101
+
+-- what comes after an answer, if the receiver goes on
+abbrev pub onward : (State → List Bool) → Next → List Bool
+onward f (going s) = f s
+onward f contradiction = []
+onward f surplus = []
+
+-- the grid's answer to the next question, then what comes after it
+abbrev pub written : Grid → (State → List Bool) → State → List Bool
+written g f s = answer g (ask s) ∷ onward f (step s (answer g (ask s)))
+
+-- what a sender writes that asks the receiver's next question of the grid, writes the answer and steps on, n times at most
+abbrev pub asked : Grid → ℕ → State → List Bool
+asked g zero s = []
+asked g (suc n) (owing m p ps free noes old new) = written g (asked g n) (owing m p ps free noes old new)
+asked g (suc n) (asking m p free noes old new) = written g (asked g n) (asking m p free noes old new)
+asked g (suc n) (sign m r c free noes old new) = written g (asked g n) (sign m r c free noes old new)
+asked g (suc n) (refinement m e todo done noes new) = written g (asked g n) (refinement m e todo done noes new)
+asked g (suc n) (finished noes old) = []
+
+-- such a sender writes the survey: what it has written begins the survey, is taken by the receiver, leaves no plane open
+-- just when it is the whole survey, and is the whole survey after as many questions as the survey has bits
+abbrev pub Asking-gives-survey : Type 0
+Asking-gives-survey = (x k P : ℕ) (g : Grid) → Headed (x + k) P g → (n : ℕ) →
+  Prefix (asked g n (start x k P)) (survey x k P g)
+  × ((s : State) × (run (going (start x k P)) (asked g n (start x k P)) ≡ going s)
+    × (openPlanes s ≡ 0 → asked g n (start x k P) ≡ survey x k P g)
+    × (asked g n (start x k P) ≡ survey x k P g → openPlanes s ≡ 0))
+  × (length (survey x k P g) ≤ n → asked g n (start x k P) ≡ survey x k P g)
