@@ -12,3 +12,6 @@ pub mod Final
 pub mod Theorems
 pub mod Arrange
 pub mod Bare
+pub mod Consequences
+pub mod Length
+pub mod Asking

@@ -54,7 +54,7 @@ reached-count x k P bits s e i j = subst (All-at i j (square (x + k) 0 0 i j)) e
 reached-sound : (x k P : ℕ) (bits : List Bool) (s : State) → run (going (start x k P)) bits ≡ going s → Sound s
 reached-sound x k P bits s e = subst Sounds e (run-sound bits (going (start x k P)) (start-sound x k P))
 
-reached-one : (x k P : ℕ) (bits : List Bool) (s : State) → run (going (start x k P)) bits ≡ going s → (i j : ℕ) → InGrid (x + k) i j → count s i j ≡ 1
+pub reached-one : (x k P : ℕ) (bits : List Bool) (s : State) → run (going (start x k P)) bits ≡ going s → (i j : ℕ) → InGrid (x + k) i j → count s i j ≡ 1
 reached-one x k P bits s e i j c = omega (arith, reached-count x k P bits s e i j, square-in (x + k) i j (c .row) (c .column))
 
 reached-fill : (x k P : ℕ) (bits : List Bool) (s : State) → run (going (start x k P)) bits ≡ going s → Possible s (fill s)

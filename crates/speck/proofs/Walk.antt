@@ -17,11 +17,11 @@ use Rattle.speck.proofs.Trace.{Trace, trace-++}
 use Rattle.speck.proofs.Geometry.{Each, part-ind, LoudBy, significant-by}
 
 -- what is got of a part, by its view
-abbrev AskBy : Grid → ℕ → Part → View → Type 0
+abbrev pub AskBy : Grid → ℕ → Part → View → Type 0
 AskBy g n p (cell r c) = askPart g n p ≡ cond (significant g n p) (foundCell g r c) (saidNo p)
 AskBy g n p (parts k ks) = askPart g n p ≡ cond (significant g n p) (opened (askAll g n (k ∷ ks))) (saidNo p)
 
-ask-by : (g : Grid) (n : ℕ) (p : Part) → AskBy g n p (view p)
+pub ask-by : (g : Grid) (n : ℕ) (p : Part) → AskBy g n p (view p)
 unfolding askPart
 ask-by g n (Block zero r c) = refl
 ask-by g n (Block (suc s) r c) = refl
