@@ -134,9 +134,13 @@ asking-gives x k P g h n =
     let bs : List Bool = asked g n (start x k P) in
     let t : Next = going (start x k P) in
     let y : Reached g bs t = asked-trace g n (start x k P) (survey x k P g) (w .waits) (w .finds) (w .trace) in
-    let r : run t bs ≡ going (y .state) = trace-run g bs t (going (y .state)) (y .trace) in
-    (begins g bs (survey x k P g) t (y .state) (w .waits) (w .finds) (y .trace) (w .trace),
-     (y .state, r,
-       closed-is-end g bs (survey x k P g) t (y .state) (w .waits) (w .finds) (y .trace) (w .trace),
-       λ e. end-is-closed (y .state) (w .waits) (w .finds) (sym r ∙ (ap (run t) e ∙ trace-run g (survey x k P g) t (going (finished (w .waits) (w .finds))) (w .trace)))),
-     enough g n (start x k P) (survey x k P g) (w .waits) (w .finds) (w .trace))
+    let r : run t bs ≡ going (y .state) = trace-run g bs t (going (y .state)) (y .trace) in (
+      begins g bs (survey x k P g) t (y .state) (w .waits) (w .finds) (y .trace) (w .trace),
+      (
+        y .state,
+        r,
+        closed-is-end g bs (survey x k P g) t (y .state) (w .waits) (w .finds) (y .trace) (w .trace),
+        λ e. end-is-closed (y .state) (w .waits) (w .finds) (sym r ∙ (ap (run t) e ∙ trace-run g (survey x k P g) t (going (finished (w .waits) (w .finds))) (w .trace))),
+      ),
+      enough g n (start x k P) (survey x k P g) (w .waits) (w .finds) (w .trace),
+    )

@@ -37,9 +37,10 @@ pub one-place : One-place
 one-place x k P bits s e i j c = places-is s i j ∙ reached-one x k P bits s e i j c
 
 pub significance : Significance-literal
-significance g n p =
-    (λ e. let l = tells g n p .yes! e in (l .row, l .column, omega (arith, l .there), upper-some n (magnitude (g (l .row) (l .column))) (l .big)),
-     λ h. says-yes g n p (record { row = h .0; column = h .1; there = omega (arith, h .2); big = some-upper n (magnitude (g (h .0) (h .1))) (h .3) }))
+significance g n p = (
+  λ e. let l = tells g n p .yes! e in (l .row, l .column, omega (arith, l .there), upper-some n (magnitude (g (l .row) (l .column))) (l .big)),
+  λ h. says-yes g n p (record { row = h .0; column = h .1; there = omega (arith, h .2); big = some-upper n (magnitude (g (h .0) (h .1))) (h .3) }),
+)
 
 or-none : (a b c d : Bool) → (a || (b || (c || (d || false)))) ≡ (a || (b || (c || d)))
 or-none true b c d = refl

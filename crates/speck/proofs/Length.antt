@@ -69,9 +69,10 @@ record Bounded (a : Outcome) (N A : ℕ) : Type 0 where
 
 both-bounded : (a b : Outcome) (N M A B : ℕ) → Bounded a N A → Bounded b M B → Bounded (andThen a b) (N + M) (A + B)
 both-bounded a b N M A B h k = record {
-    bits-few = omega (arith, h .bits-few, k .bits-few, length-append (a .bits) (b .bits), length-append (a .finds) (b .finds));
-    nodes-left = omega (arith, h .nodes-left, k .nodes-left, sum-++ nodes (a .waits) (b .waits), length-append (a .finds) (b .finds));
-    cells-left = omega (arith, h .cells-left, k .cells-left, sum-++ area (a .waits) (b .waits), length-append (a .finds) (b .finds)) }
+  bits-few = omega (arith, h .bits-few, k .bits-few, length-append (a .bits) (b .bits), length-append (a .finds) (b .finds));
+  nodes-left = omega (arith, h .nodes-left, k .nodes-left, sum-++ nodes (a .waits) (b .waits), length-append (a .finds) (b .finds));
+  cells-left = omega (arith, h .cells-left, k .cells-left, sum-++ area (a .waits) (b .waits), length-append (a .finds) (b .finds));
+}
 
 some-nodes : (p : Part) → 1 ≤ nodes p
 some-nodes (Block zero r c) = omega arith

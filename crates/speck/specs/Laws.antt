@@ -51,7 +51,7 @@ Significance-literal = (g : Grid) (n : ℕ) (p : Part) → (significant g n p �
 -- a block is significant just if one of its quarters is
 abbrev pub Significance-by-parts : Type 0
 Significance-by-parts = (g : Grid) (n s r c : ℕ) →
-  significant g n (Block (suc s) r c) ≡ (significant g n (Block s r c) || (significant g n (Block s r (c + 2 ^ s)) || (significant g n (Block s (r + 2 ^ s) c) || significant g n (Block s (r + 2 ^ s) (c + 2 ^ s)))))
+    significant g n (Block (suc s) r c) ≡ (significant g n (Block s r c) || (significant g n (Block s r (c + 2 ^ s)) || (significant g n (Block s (r + 2 ^ s) c) || significant g n (Block s (r + 2 ^ s) (c + 2 ^ s)))))
 
 -- a grid has one number of bit planes
 abbrev pub One-plane-count : Type 0
@@ -84,8 +84,8 @@ asked g (suc n) (finished noes old) = []
 -- just when it is the whole survey, and is the whole survey after as many questions as the survey has bits
 abbrev pub Asking-gives-survey : Type 0
 Asking-gives-survey = (x k P : ℕ) (g : Grid) → Headed (x + k) P g → (n : ℕ) →
-  Prefix (asked g n (start x k P)) (survey x k P g)
-  × ((s : State) × (run (going (start x k P)) (asked g n (start x k P)) ≡ going s)
+    Prefix (asked g n (start x k P)) (survey x k P g)
+    × ((s : State) × (run (going (start x k P)) (asked g n (start x k P)) ≡ going s)
     × (openPlanes s ≡ 0 → asked g n (start x k P) ≡ survey x k P g)
     × (asked g n (start x k P) ≡ survey x k P g → openPlanes s ≡ 0))
-  × (length (survey x k P g) ≤ n → asked g n (start x k P) ≡ survey x k P g)
+    × (length (survey x k P g) ≤ n → asked g n (start x k P) ≡ survey x k P g)

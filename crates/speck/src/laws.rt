@@ -15,5 +15,4 @@ pub fn laws()
     ensures significance_is_literal { λ _. ⌜ Significance-literal ⌝ }
     ensures significance_by_quarters { λ _. ⌜ Significance-by-parts ⌝ }
     ensures places_suffice { λ _. ⌜ Places-suffice ⌝ }
-{
-}
+{}

@@ -9,10 +9,10 @@ use native.Mathlib.Numerals.{add-one}
 use lib.ListN.{length, getD, take, drop, length-append}
 use Rattle.speck.specs.declared.Part.{Part}
 use Rattle.speck.specs.declared.Part.the-variants.{Block, Rest}
-use Rattle.speck.specs.declared.Found.{Found}
+use Rattle.speck.specs.Survey.{Found}
 use Rattle.speck.specs.Grid.{View, cell, parts, view, outside}
 use Rattle.walk.specs.Parts.{All, Within, ring, area, areas}
-use Rattle.walk.specs.Layout.{Small, Sound}
+use Rattle.walk.specs.Layout.{Sound}
 
 pub All-++ : {X : Type 0} (P : X → Type 0) (xs ys : List X) → All P xs → All P ys → All P (xs ++ ys)
 All-++ P [] ys a b = b
@@ -79,7 +79,7 @@ spread-room p a ks todo noes cells n kept at r0 r1 r2 e h = omega (arith, e .siz
 pub spread-sound : (p a : Part) (ks todo noes : List Part) (cells : List Found) (n kept at r0 r1 r2 : ℕ) → Spreads p a ks → Sound (area p) n todo noes cells kept at r0 r1 r2 → Sound (area a) n (ks ++ todo) noes cells kept at r0 r1 r2
 spread-sound p a ks todo noes cells n kept at r0 r1 r2 e h =
     let z = areas-++ ks todo in
-    record { plane = h .plane; pending = All-++ Within ks todo (e .others) (h .pending); quiet = h .quiet; room0 = omega (arith, e .size, h .room0); room1 = omega (arith, e .size, h .room1); room2 = omega (arith, e .size, h .room2); known = h .known; insert = h .insert; refined = h .refined; older = h .older; newer = h .newer }
+    record { plane = h .plane; pending = All-++ Within ks todo (e .others) (h .pending); waiting = h .waiting; room0 = omega (arith, e .size, h .room0); room1 = omega (arith, e .size, h .room1); room2 = omega (arith, e .size, h .room2); known = h .known; position = h .position }
 
 doubled : (a b : ℕ) → a * a ≡ b → 2 * a * (2 * a) ≡ 4 * b
 doubled a b e = omega (arith, e, mul-assoc 2 a (2 * a), mul-comm a (2 * a), mul-assoc 2 a a)

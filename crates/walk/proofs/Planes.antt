@@ -11,11 +11,11 @@ use lib.Pow.{pow-mono}
 use lib.ListN.{length, getD, take, drop}
 use Rattle.std.proofs.shelf.Lists.{take-all, drop-all, take-append-drop, nil-from-length, drop-more, length-take-le, getD-take}
 use Rattle.speck.specs.declared.Part.{Part}
-use Rattle.speck.specs.declared.Found.{Found}
+use Rattle.speck.specs.Survey.{Found}
 use Rattle.speck.specs.Survey.{insert, arranged, before}
 use Rattle.speck.specs.Machine.{State, owing, asking, sign, refinement, finished, enterPlane, goOnBy, refineOnBy, start}
 use Rattle.walk.specs.Parts.{All, Within, area, areas}
-use Rattle.walk.specs.Layout.{Small, Sound, blank}
+use Rattle.walk.specs.Layout.{Sound, blank}
 use Rattle.walk.proofs.Facts.{All-++, areas-++, outside-all, outside-within}
 use Rattle.walk.proofs.Tiers.{length-arrange}
 
@@ -43,44 +43,28 @@ unfolding arranged
 All-arrange P [] a = tt
 All-arrange P (p ∷ l) a = All-place P p (arranged l) (a .0) (All-arrange P l (a .1))
 
-pub more-small : (j k : ℕ) → j ≤ k → (l : List Found) → All (Small j) l → All (Small k) l
-more-small j k h [] a = tt
-more-small j k h (e ∷ l) a = (let m : 2 ^ j ≤ 2 ^ k = pow-mono {i = j} {j = k} h in record { leading = omega (arith, a .0 .leading); row = a .0 .row; column = a .0 .column }, more-small j k h l (a .1))
-
-pub all-small : (n : ℕ) (todo w : List Part) (cells : List Found) (kept at r0 r1 r2 : ℕ) → Sound 0 n todo w cells kept at r0 r1 r2 → at ≡ kept → All (Small (15 - n)) cells
-all-small n todo w cells kept at r0 r1 r2 s a =
-    let lo : All (Small (15 - n)) (take kept cells) = subst (λ i. All (Small (15 - n)) (take i cells)) a (s .refined) in
-    let upper : All (Small (15 - n)) (drop kept cells) = more-small 1 (15 - n) (omega (arith, s .plane)) (drop kept cells) (s .newer) in
-    subst (All (Small (15 - n))) (take-append-drop kept cells) (All-++ (Small (15 - n)) (take kept cells) (drop kept cells) lo upper)
-
 -- a plane ended: the next one's lists
 pub fresh : (n : ℕ) (todo w todo′ w′ : List Part) (cells : List Found) (kept at kept′ r0 r1 r2 r0′ r1′ : ℕ) → Sound 0 n todo w cells kept at r0 r1 r2 → at ≡ kept → 0 < n → todo′ ≡ arranged w → w′ ≡ [] → kept′ ≡ length cells → r0′ ≡ r0 → r1′ ≡ r1 → Sound 0 (n - 1) todo′ w′ cells kept′ 0 r0′ r1′ r2
 fresh n todo w todo′ w′ cells kept at kept′ r0 r1 r2 r0′ r1′ s a h t z k e f =
     let y = areas-arrange w in
     let v : areas todo′ ≡ areas (arranged w) = ap areas t in
     let u : areas w′ ≡ 0 = ap areas z in
-    let q : 14 - (n - 1) ≡ 15 - n = omega arith in
-    let lo : All (Small (15 - n)) (take kept cells) = subst (λ i. All (Small (15 - n)) (take i cells)) a (s .refined) in
-    let upper : All (Small (15 - n)) (drop kept cells) = more-small 1 (15 - n) (omega (arith, s .plane)) (drop kept cells) (s .newer) in
-    let all : All (Small (15 - n)) cells = subst (All (Small (15 - n))) (take-append-drop kept cells) (All-++ (Small (15 - n)) (take kept cells) (drop kept cells) lo upper) in
     record {
       plane = omega (arith, s .plane);
-      pending = subst (All Within) (sym t) (All-arrange Within w (s .quiet));
-      quiet = subst (All Within) (sym z) tt;
+      pending = subst (All Within) (sym t) (All-arrange Within w (s .waiting));
+      waiting = subst (All Within) (sym z) tt;
       room0 = omega (arith, s .room0);
       room1 = omega (arith, s .room1);
       room2 = omega (arith, s .room2);
       known = omega arith;
-      insert = omega arith;
-      refined = tt;
-      older = rw (q, take-all kept′ cells (omega arith)) all;
-      newer = rw (drop-all kept′ cells (omega arith)) tt }
+      position = omega arith;
+    }
 
 pub drawn : (n : ℕ) (p : Part) (todo todo′ w : List Part) (cells : List Found) (kept at r0 r1 r2 r0′ : ℕ) → Sound 0 n todo w cells kept at r0 r1 r2 → todo ≡ p ∷ todo′ → r0′ ≡ r0 → Sound (area p) n todo′ w cells kept at r0′ r1 r2 × Within p
 drawn n p todo todo′ w cells kept at r0 r1 r2 r0′ s e f =
     let v : areas todo ≡ area p + areas todo′ = ap areas e in
     let a : All Within (p ∷ todo′) = subst (All Within) e (s .pending) in
-    (record { plane = s .plane; pending = a .1; quiet = s .quiet; room0 = omega (arith, s .room0); room1 = omega (arith, s .room1); room2 = omega (arith, s .room2); known = s .known; insert = s .insert; refined = s .refined; older = s .older; newer = s .newer }, a .0)
+    (record { plane = s .plane; pending = a .1; waiting = s .waiting; room0 = omega (arith, s .room0); room1 = omega (arith, s .room1); room2 = omega (arith, s .room2); known = s .known; position = s .position }, a .0)
 
 -- what the machine asks then
 pub enter-part : (n : ℕ) (p : Part) (todo w w′ : List Part) (f : List Found) (kept : ℕ) → 0 < n → arranged w ≡ p ∷ todo → w′ ≡ [] → kept ≡ length f → asking (n - 1) p todo w′ (take kept f) (drop kept f) ≡ enterPlane n w f
@@ -125,12 +109,12 @@ turn-end n i kept w f h k =
     sym (ap (λ t. refineOnBy (enterPlane n) n t (take i f) w (drop kept f)) e ∙ ap (enterPlane n w) g)
 
 -- the first question of all
-pub first-state : (x k n openPlanes kept : ℕ) (todo noes : List Part) (cells : List Found) → todo ≡ outside k x → noes ≡ [] → cells ≡ [] → kept ≡ 0 → openPlanes ≡ length (outside k x) → owing n (Block x 0 0) (take openPlanes todo) (drop openPlanes todo) noes (take kept cells) (drop kept cells) ≡ start x k (n + 1)
-first-state x k n openPlanes kept todo noes cells e f g h i = rw (e, f, g, h, i, take-all (length (outside k x)) (outside k x) (omega arith), drop-all (length (outside k x)) (outside k x) (omega arith), add-one) refl
+pub first-state : (x k n remaining kept : ℕ) (todo noes : List Part) (cells : List Found) → todo ≡ outside k x → noes ≡ [] → cells ≡ [] → kept ≡ 0 → remaining ≡ length (outside k x) → owing n (Block x 0 0) (take remaining todo) (drop remaining todo) noes (take kept cells) (drop kept cells) ≡ start x k (n + 1)
+first-state x k n remaining kept todo noes cells e f g h i = rw (e, f, g, h, i, take-all (length (outside k x)) (outside k x) (omega arith), drop-all (length (outside k x)) (outside k x) (omega arith), add-one) refl
 
 pub first-sound : (x k n kept at r0 r1 r2 : ℕ) (todo noes : List Part) (cells : List Found) → n ≤ 14 → x + k ≤ 6 → todo ≡ outside k x → noes ≡ [] → cells ≡ [] → kept ≡ 0 → at ≡ 0 → 4 ^ (x + k) ≤ r0 → 4 ^ (x + k) ≤ r1 → 4 ^ (x + k) ≤ r2 → Sound (4 ^ x) n todo noes cells kept at r0 r1 r2
 first-sound x k n kept at r0 r1 r2 todo noes cells h w e f g i j a b c =
-    rw (e, f, g, i, j) (record { plane = h; pending = outside-within k x w; quiet = tt; room0 = omega (arith, outside-all k x); room1 = omega (arith, outside-all k x); room2 = omega (arith, outside-all k x); known = omega arith; insert = omega arith; refined = tt; older = tt; newer = tt })
+    rw (e, f, g, i, j) (record { plane = h; pending = outside-within k x w; waiting = tt; room0 = omega (arith, outside-all k x); room1 = omega (arith, outside-all k x); room2 = omega (arith, outside-all k x); known = omega arith; position = omega arith })
 
 pub first-within : (x k : ℕ) → x + k ≤ 6 → Within (Block x 0 0)
 first-within x k h = let m : 2 ^ x ≤ 2 ^ 6 = pow-mono {i = x} {j = 6} (omega arith) in (omega arith, omega arith, omega arith)

@@ -2,25 +2,28 @@
 use Prim.Native.Nat.{ℕ}
 use Rattle.std.specs.declared.result.Result.{Result}
 use Rattle.std.specs.declared.result.Result.the-variants.{Ok, Err}
-use Rattle.walk.specs.declared.part.Refusal.{Refusal}
-use Rattle.walk.specs.declared.part.Refusal.the-variants.{Clash, Surplus}
-use Rattle.walk.specs.declared.walk.Walk.{Walk}
-use Rattle.speck.specs.Machine.{State, Next, going, contradiction, surplus, ask}
+use Rattle.walk.specs.declared.Walk.{Walk}
+use Rattle.walk.specs.declared.asking.BitFault.{BitFault}
+use Rattle.walk.specs.declared.asking.BitFault.the-variants as fault
+use Rattle.walk.specs.declared.asking.Question.{Question}
+use Rattle.walk.specs.declared.asking.Question.the-variants as question
+use Rattle.speck.specs.Machine.{State, Next, going, contradiction, surplus, significant?, negative?, bit?, nothing?}
 use Rattle.speck.specs.Machine as machine
-use Rattle.walk.specs.declared.part.Question.{Question}
-use Rattle.walk.specs.declared.part.Question.the-variants.{Some, Minus, Bit, Nothing}
+use Rattle.speck.specs.Places.{placed}
 use Rattle.walk.specs.Layout.{stateIn}
 
 abbrev pub stateOf : Walk → State
-stateOf w = stateIn (w .asked) (w .lists)
+stateOf w = stateIn (w .asking) (w .lists)
 
-abbrev pub nextOf : Result (Unit {0}) Refusal → State → Next
+-- what an answer of `step` says of the machine, of which s is the state afterwards
+abbrev pub nextOf : Result (Unit {0}) BitFault → State → Next
 nextOf (Ok _) s = going s
-nextOf (Err Clash) s = contradiction
-nextOf (Err Surplus) s = surplus
+nextOf (Err fault.Contradiction) s = contradiction
+nextOf (Err fault.Surplus) s = surplus
 
+-- the machine's question that a question of the walk is
 abbrev pub asks : Question → machine.Question
-asks (Some n p) = machine.significant? n p
-asks (Minus r c) = machine.negative? r c
-asks (Bit n e) = machine.bit? n e
-asks Nothing = machine.nothing?
+asks (question.Significant n p) = significant? n p
+asks (question.Negative r c) = negative? r c
+asks (question.Bit n r c) = bit? n (placed r c)
+asks question.Nothing = nothing?

@@ -14,19 +14,19 @@ use std::alloc::Global;
 
 // Parts, the next one on top.
 #[derive(Drop)]
-pub struct Pile {
+pub(crate) struct Pile {
     items: Vec<Part>,
 }
 
 impl Pile {
-    pub fn open(heap: Global, room: usize) -> Result<Pile, AllocError>
+    pub(crate) fn open(heap: Global, room: usize) -> Result<Pile, AllocError>
         ensures { λ r. ⌜ made r (λ p. (pileOf p ≡ []) × (room ≤ roomOf p)) ⌝ }
     {
         let items = Vec::with_capacity(heap, room)?;
         Ok(Pile { items })
     }
 
-    pub fn put(&mut self, part: Part)
+    pub(crate) fn put(&mut self, part: Part)
         requires { ⌜ length (pileOf (now self)) < roomOf (now self) ⌝ }
         ensures list { λ _. ⌜ pileOf (now (self .exit)) ≡ part ∷ pileOf (now (self .entry)) ⌝ }
         ensures room { λ _. ⌜ roomOf (now (self .exit)) ≡ roomOf (now (self .entry)) ⌝ }
@@ -34,14 +34,14 @@ impl Pile {
         self.items.push_reserved(part);
     }
 
-    pub fn draw(&mut self) -> Option<Part>
+    pub(crate) fn draw(&mut self) -> Option<Part>
         ensures list { λ r. ⌜ BySome r ((pileOf (now (self .entry)) ≡ []) × (pileOf (now (self .exit)) ≡ [])) (λ x. pileOf (now (self .entry)) ≡ x ∷ pileOf (now (self .exit))) ⌝ }
         ensures room { λ _. ⌜ roomOf (now (self .exit)) ≡ roomOf (now (self .entry)) ⌝ }
     {
         self.items.pop()
     }
 
-    pub fn put_two(&mut self, first: Part, second: Part)
+    pub(crate) fn put_two(&mut self, first: Part, second: Part)
         requires { ⌜ length (pileOf (now self)) + 2 ≤ roomOf (now self) ⌝ }
         ensures list { λ _. ⌜ pileOf (now (self .exit)) ≡ first ∷ second ∷ pileOf (now (self .entry)) ⌝ }
         ensures room { λ _. ⌜ roomOf (now (self .exit)) ≡ roomOf (now (self .entry)) ⌝ }
@@ -50,7 +50,7 @@ impl Pile {
         self.put(first);
     }
 
-    pub fn put_three(&mut self, first: Part, second: Part, third: Part)
+    pub(crate) fn put_three(&mut self, first: Part, second: Part, third: Part)
         requires { ⌜ length (pileOf (now self)) + 3 ≤ roomOf (now self) ⌝ }
         ensures list { λ _. ⌜ pileOf (now (self .exit)) ≡ first ∷ second ∷ third ∷ pileOf (now (self .entry)) ⌝ }
         ensures room { λ _. ⌜ roomOf (now (self .exit)) ≡ roomOf (now (self .entry)) ⌝ }
@@ -60,7 +60,7 @@ impl Pile {
     }
 
     // The rest beyond the square of side 2^side, if the grid is so much larger.
-    pub fn put_outside(&mut self, levels: u8, side: u8) -> u8
+    pub(crate) fn put_outside(&mut self, levels: u8, side: u8) -> u8
         requires { ⌜ length (pileOf (now self)) < roomOf (now self) ⌝ }
         ensures list { λ _. ⌜ pileOf (now (self .exit)) ≡ outside levels side ++ pileOf (now (self .entry)) ⌝ }
         ensures room { λ _. ⌜ roomOf (now (self .exit)) ≡ roomOf (now (self .entry)) ⌝ }
@@ -69,12 +69,15 @@ impl Pile {
         if levels == 0 {
             return 0;
         }
-        self.put(Part::Rest { deeper: levels - 1, side });
+        self.put(Part::Rest {
+            deeper: levels - 1,
+            side,
+        });
         1
     }
 
     // Puts the parts on the empty pile: the smallest on top, those of one side in their order, the rest at the bottom.
-    pub fn gather(&mut self, parts: &[Part])
+    pub(crate) fn gather(&mut self, parts: &[Part])
         requires empty { ⌜ pileOf (now self) ≡ [] ⌝ }
         requires within { ⌜ All Within (now parts) ⌝ }
         requires room { ⌜ length (now parts) ≤ roomOf (now self) ⌝ }

@@ -4,37 +4,51 @@ ghost use Prim.Native.Nat.{ℕ, _+_, _^_, _<_, _≤_};
 ghost use lib.ListN.{length, getD, take, drop};
 ghost use Rattle.walk.specs.Piles.{pileOf, roomOf};
 ghost use Rattle.speck.specs.Grid.{view, outside};
-ghost use Rattle.speck.specs.Survey.{refined};
-ghost use Rattle.speck.specs.Machine.{enterPlane, refineOn as turned, goOn as gone, unfolded as opened, going, step as stepped, start};
+ghost use Rattle.speck.specs.Places.{placeStep as stepped, placed};
+ghost use Rattle.speck.specs.Machine.{enterPlane, refineOn as turned, goOn as gone, unfolded as opened, going, start};
 ghost use mathlib.Core.Bool.{false};
 ghost use Rattle.walk.specs.Parts.{Within, area};
-ghost use Rattle.walk.specs.Layout.{todoOf, noesOf, cellsOf, oldOf, newOf, doneOf, stateIn, SoundIn, Sorts, Refines, Good, blank, foundAt, Opened};
+ghost use Rattle.walk.specs.Layout.{todoOf, noesOf, cellsOf, oldOf, newOf, doneOf, stateIn, SoundIn, Sorts, Refines, Good, blank, Opened};
 ghost use Rattle.std.specs.Vec.{made};
 use super::*;
+use crate::asking::*;
 use std::alloc::AllocError;
 use std::alloc::Global;
-use crate::part::*;
 
 impl Lists {
     pub(crate) fn open(heap: Global, room: usize, plane: u8) -> Result<Lists, AllocError>
         ensures { λ r. ⌜ made r (λ l. Opened room plane l) ⌝ }
     {
         let pending = Pile::open(heap, room)?;
-        let quiet = Vec::with_capacity(heap, room)?;
+        let waiting = Vec::with_capacity(heap, room)?;
         let found = Vec::with_capacity(heap, room)?;
-        Ok(Lists { plane, pending, quiet, found, kept: 0, at: 0 })
+        Ok(Lists {
+            plane,
+            pending,
+            waiting,
+            found,
+            kept: 0,
+            at: 0,
+        })
     }
 
-    // Nothing is to be asked: the whole grid is quiet.
+    // Nothing is to be asked: the whole grid is waiting.
     pub(crate) fn rest_all(&mut self, side: u8, levels: u8)
-        requires quiet { ⌜ noesOf (now self) ≡ [] ⌝ }
-        requires room { ⌜ 2 ≤ now self .quiet .cap ⌝ }
-        ensures quiet { λ _. ⌜ noesOf (now (self .exit)) ≡ Part.Block side 0 0 ∷ outside levels side ⌝ }
+        requires waiting { ⌜ noesOf (now self) ≡ [] ⌝ }
+        requires room { ⌜ 2 ≤ now self .waiting .cap ⌝ }
+        ensures waiting { λ _. ⌜ noesOf (now (self .exit)) ≡ Part.Block side 0 0 ∷ outside levels side ⌝ }
         ensures found { λ _. ⌜ now (self .exit) .found ≡ now (self .entry) .found ⌝ }
     {
-        self.quiet.push_reserved(Part::Block { side, row: 0, column: 0 });
+        self.waiting.push_reserved(Part::Block {
+            side,
+            row: 0,
+            column: 0,
+        });
         if levels > 0 {
-            self.quiet.push_reserved(Part::Rest { deeper: levels - 1, side });
+            self.waiting.push_reserved(Part::Rest {
+                deeper: levels - 1,
+                side,
+            });
         }
     }
 
@@ -47,7 +61,14 @@ impl Lists {
         ensures good { λ r. ⌜ Good r (now (self .exit)) ⌝ }
     {
         let left = self.pending.put_outside(levels, side);
-        Asking::Quarter { part: Part::Block { side, row: 0, column: 0 }, left }
+        Asking::Quarter {
+            part: Part::Block {
+                side,
+                row: 0,
+                column: 0,
+            },
+            left,
+        }
     }
 
     // A part that said yes: its cell, or its own parts.
@@ -64,17 +85,50 @@ impl Lists {
                 }
                 let side = side - 1;
                 let half = extent(side);
-                let b = Part::Block { side, row, column: column + half };
-                let c = Part::Block { side, row: row + half, column };
-                let d = Part::Block { side, row: row + half, column: column + half };
+                let b = Part::Block {
+                    side,
+                    row,
+                    column: column + half,
+                };
+                let c = Part::Block {
+                    side,
+                    row: row + half,
+                    column,
+                };
+                let d = Part::Block {
+                    side,
+                    row: row + half,
+                    column: column + half,
+                };
                 self.pending.put_three(b, c, d);
-                Asking::Quarter { part: Part::Block { side, row, column }, left: 3 }
+                Asking::Quarter {
+                    part: Part::Block { side, row, column },
+                    left: 3,
+                }
             }
             Part::Rest { deeper, side } => {
                 let half = extent(side);
                 let more = self.pending.put_outside(deeper, side + 1);
-                self.pending.put_two(Part::Block { side, row: half, column: 0 }, Part::Block { side, row: half, column: half });
-                Asking::Quarter { part: Part::Block { side, row: 0, column: half }, left: 2 + more }
+                self.pending.put_two(
+                    Part::Block {
+                        side,
+                        row: half,
+                        column: 0,
+                    },
+                    Part::Block {
+                        side,
+                        row: half,
+                        column: half,
+                    },
+                );
+                Asking::Quarter {
+                    part: Part::Block {
+                        side,
+                        row: 0,
+                        column: half,
+                    },
+                    left: 2 + more,
+                }
             }
         }
     }
@@ -86,7 +140,7 @@ impl Lists {
         ensures good { λ r. ⌜ Good r (now (self .exit)) ⌝ }
     {
         match self.pending.draw() {
-            Some(part) => Asking::Waiting { part },
+            Some(part) => ask_freely(part),
             None => self.refine_on(),
         }
     }
@@ -119,10 +173,10 @@ impl Lists {
         self.plane -= 1;
         self.kept = self.found.len();
         self.at = 0;
-        self.pending.gather(self.quiet.as_slice());
-        self.quiet.clear();
+        self.pending.gather(self.waiting.as_slice());
+        self.waiting.clear();
         match self.pending.draw() {
-            Some(part) => Asking::Waiting { part },
+            Some(part) => ask_freely(part),
             None => {
                 if self.kept > 0 {
                     Asking::Refinement
@@ -140,7 +194,7 @@ impl Lists {
         ensures state { λ r. ⌜ stateIn r (now (self .exit)) ≡ gone (now (self .entry) .plane) (todoOf (now (self .entry))) (noesOf (now (self .entry)) ++ part ∷ []) (oldOf (now (self .entry))) (newOf (now (self .entry))) ⌝ }
         ensures good { λ r. ⌜ Good r (now (self .exit)) ⌝ }
     {
-        self.quiet.push_reserved(part);
+        self.waiting.push_reserved(part);
         self.ask_on()
     }
 
@@ -148,38 +202,37 @@ impl Lists {
     pub(crate) fn pass_on(&mut self, part: Part, left: u8) -> Asking
         requires within { ⌜ Within part ⌝ }
         requires sorts { ⌜ Sorts (area part) (now self) ⌝ }
-        requires some { ⌜ 0 < openPlanes ⌝ }
-        requires openPlanes { ⌜ openPlanes ≤ length (todoOf (now self)) ⌝ }
-        ensures state { λ r. ⌜ going (stateIn r (now (self .exit))) ≡ stepped (stateIn (Asking.Quarter part openPlanes) (now (self .entry))) false ⌝ }
+        requires some { ⌜ 0 < left ⌝ }
+        requires left { ⌜ left ≤ length (todoOf (now self)) ⌝ }
+        ensures state { λ r. ⌜ going (stateIn r (now (self .exit))) ≡ stepped (stateIn (Asking.Quarter part left) (now (self .entry))) false ⌝ }
         ensures good { λ r. ⌜ Good r (now (self .exit)) ⌝ }
     {
-        self.quiet.push_reserved(part);
+        self.waiting.push_reserved(part);
         match self.pending.draw() {
-            Some(part) => Asking::Quarter { part, left: left - 1 },
+            Some(part) => Asking::Quarter {
+                part,
+                left: left - 1,
+            },
             None => unreachable(),
         }
     }
 
-    // A cell was found.
-    pub(crate) fn find(&mut self, row: u8, column: u8, negative: bool) -> Asking
-        requires sorts { ⌜ Sorts 1 (now self) ⌝ }
-        requires row { ⌜ row < 64 ⌝ }
-        requires column { ⌜ column < 64 ⌝ }
-        ensures state { λ r. ⌜ stateIn r (now (self .exit)) ≡ gone (now (self .entry) .plane) (todoOf (now (self .entry))) (noesOf (now (self .entry))) (oldOf (now (self .entry))) (newOf (now (self .entry)) ++ foundAt row column negative ∷ []) ⌝ }
+    // A cell was found: its sign came.
+    pub(crate) fn find(&mut self, row: u8, column: u8) -> Asking
+        requires { ⌜ Sorts 1 (now self) ⌝ }
+        ensures state { λ r. ⌜ stateIn r (now (self .exit)) ≡ gone (now (self .entry) .plane) (todoOf (now (self .entry))) (noesOf (now (self .entry))) (oldOf (now (self .entry))) (newOf (now (self .entry)) ++ placed row column ∷ []) ⌝ }
         ensures good { λ r. ⌜ Good r (now (self .exit)) ⌝ }
     {
-        self.found.push_reserved(Found { row, column, negative, high: 1 });
+        self.found.push_reserved(Cell { row, column });
         self.ask_on()
     }
 
-    // A bit of a found cell.
-    pub(crate) fn refine(&mut self, bit: bool) -> Asking
+    // A bit of a found cell came.
+    pub(crate) fn refine(&mut self) -> Asking
         requires { ⌜ Refines (now self) ⌝ }
-        ensures state { λ r. ⌜ stateIn r (now (self .exit)) ≡ turned (now (self .entry) .plane) (drop (now (self .entry) .at + 1) (oldOf (now (self .entry)))) (doneOf (now (self .entry)) ++ refined (getD (cellsOf (now (self .entry))) (now (self .entry) .at) blank) bit ∷ []) (noesOf (now (self .entry))) (newOf (now (self .entry))) ⌝ }
+        ensures state { λ r. ⌜ stateIn r (now (self .exit)) ≡ turned (now (self .entry) .plane) (drop (now (self .entry) .at + 1) (oldOf (now (self .entry)))) (doneOf (now (self .entry)) ++ getD (cellsOf (now (self .entry))) (now (self .entry) .at) blank ∷ []) (noesOf (now (self .entry))) (newOf (now (self .entry))) ⌝ }
         ensures good { λ r. ⌜ Good r (now (self .exit)) ⌝ }
     {
-        let cell = self.found[self.at];
-        self.found[self.at] = cell.with_bit(bit);
         self.at += 1;
         self.refine_on()
     }

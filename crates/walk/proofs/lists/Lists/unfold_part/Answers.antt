@@ -6,36 +6,37 @@ use lib.ListN.{length, take, drop, length-append}
 use Rattle.std.proofs.shelf.Lists.{take-at, drop-at}
 use Rattle.speck.specs.declared.Part.{Part}
 use Rattle.speck.specs.declared.Part.the-variants.{Block, Rest}
-use Rattle.walk.specs.declared.part.Asking.the-variants.{Quarter}
+use Rattle.walk.specs.declared.asking.Asking.the-variants.{Quarter}
 use Rattle.walk.specs.declared.lists.Lists.{Lists}
 use Rattle.walk.specs.declared.pile.Pile.{Pile}
 use Rattle.speck.specs.Grid.{view, parts, outside}
 use Rattle.speck.specs.Machine.{owing, unfolded}
 use Rattle.walk.specs.Piles.{pileOf, roomOf}
 use Rattle.walk.specs.Parts.{All, Within, area, areas}
-use Rattle.walk.specs.Layout.{Sound, Sorts, Good, todoOf, noesOf, oldOf, newOf, stateIn}
+use Rattle.walk.specs.Layout.{cellsOf, Sound, Sorts, Good, todoOf, noesOf, oldOf, newOf, stateIn}
 use Rattle.walk.proofs.Facts.{Spreads, spread-block, spread-rest, spread-room, spread-sound}
 use Rattle.walk.proofs.lists.Lists.unfold_part.Needs as need
 
 abbrev with : Lists → Pile → Lists
-with l q = record { plane = l .plane; pending = q; quiet = l .quiet; found = l .found; kept = l .kept; at = l .at }
+with l q = record { plane = l .plane; pending = q; waiting = l .waiting; found = l .found; kept = l .kept; at = l .at }
 
 -- the parts of p are on the pile
-pub record Done (l : Lists) (p a : Part) (openPlanes : ℕ) (q : Pile) : Type 0 where
-  pub state : stateIn (Quarter a openPlanes) (with l q) ≡ unfolded (l .plane) (view p) (todoOf l) (noesOf l) (oldOf l) (newOf l)
-  pub good : Good (Quarter a openPlanes) (with l q)
+pub record Done (l : Lists) (p a : Part) (remaining : ℕ) (q : Pile) : Type 0 where
+  pub state : stateIn (Quarter a remaining) (with l q) ≡ unfolded (l .plane) (view p) (todoOf l) (noesOf l) (oldOf l) (newOf l)
+  pub good : Good (Quarter a remaining) (with l q)
 
-done : (l : Lists) (p a : Part) (ks : List Part) (openPlanes : ℕ) (q : Pile) → Spreads p a ks → Sorts (area p) l → pileOf q ≡ ks ++ todoOf l → roomOf q ≡ roomOf (l .pending) → openPlanes ≡ length ks → Done l p a openPlanes q
-done l p a ks openPlanes q s h e r n =
+done : (l : Lists) (p a : Part) (ks : List Part) (remaining : ℕ) (q : Pile) → Spreads p a ks → Sorts (area p) l → pileOf q ≡ ks ++ todoOf l → roomOf q ≡ roomOf (l .pending) → remaining ≡ length ks → Done l p a remaining q
+done l p a ks remaining q s h e r n =
     record {
-      state = ap (λ t. owing (l .plane) a (take openPlanes t) (drop openPlanes t) (noesOf l) (oldOf l) (newOf l)) e ∙ rw n (halves ks (todoOf l)) ∙ ap (λ v. unfolded (l .plane) v (todoOf l) (noesOf l) (oldOf l) (newOf l)) (sym (s .shown));
-      good = (record { sound = rw (e, r) (spread-sound p a ks (todoOf l) (noesOf l) (l .found .items) (l .plane) (l .kept) (l .at) (roomOf (l .pending)) (l .quiet .cap) (l .found .cap) s (h .sound)); at = h .at }, s .first, rw (e, length-append) (omega arith)) }
+      state = ap (λ t. owing (l .plane) a (take remaining t) (drop remaining t) (noesOf l) (oldOf l) (newOf l)) e ∙ rw n (halves ks (todoOf l)) ∙ ap (λ v. unfolded (l .plane) v (todoOf l) (noesOf l) (oldOf l) (newOf l)) (sym (s .shown));
+      good = (record { sound = rw (e, r) (spread-sound p a ks (todoOf l) (noesOf l) (cellsOf l) (l .plane) (l .kept) (l .at) (roomOf (l .pending)) (l .waiting .cap) (l .found .cap) s (h .sound)); at = h .at }, s .first, rw (e, length-append) (omega arith));
+    }
   where
     halves : (ks todo : List Part) → owing (l .plane) a (take (length ks) (ks ++ todo)) (drop (length ks) (ks ++ todo)) (noesOf l) (oldOf l) (newOf l) ≡ owing (l .plane) a ks todo (noesOf l) (oldOf l) (newOf l)
     halves ks todo = rw (take-at ks todo (length ks) refl, drop-at ks todo (length ks) refl)
 
 room : (l : Lists) (p a : Part) (ks : List Part) → Spreads p a ks → Sorts (area p) l → length ks + length (todoOf l) < roomOf (l .pending)
-room l p a ks s h = spread-room p a ks (todoOf l) (noesOf l) (l .found .items) (l .plane) (l .kept) (l .at) (roomOf (l .pending)) (l .quiet .cap) (l .found .cap) s (h .sound)
+room l p a ks s h = spread-room p a ks (todoOf l) (noesOf l) (cellsOf l) (l .plane) (l .kept) (l .at) (roomOf (l .pending)) (l .waiting .cap) (l .found .cap) s (h .sound)
 
 pub put-three-requires : need.put-three-requires
 put-three-requires c κs =
