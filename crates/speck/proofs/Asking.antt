@@ -1,6 +1,6 @@
 -- A sender that asks and steps writes the survey.
 use mathlib.Core.Path.{_≡_, refl, sym, _∙_, ap, subst}
-use mathlib.Core.List.{List, [], _∷_}
+use mathlib.Core.List.{List, [], _∷_, _++_, append-assoc, append-nil}
 use mathlib.Core.Bool.{Bool}
 use Prim.Native.Nat.{ℕ, zero, suc, _+_, _≤_}
 use native.Mathlib.Omega.{arith}
@@ -10,14 +10,11 @@ use Rattle.speck.specs.declared.Part.the-variants.{Block}
 use Rattle.speck.specs.Grid.{Grid, magnitude, outside}
 use Rattle.speck.specs.Survey.{Found, survey}
 use Rattle.speck.specs.Machine.{State, owing, asking, sign, refinement, finished, ask, answer, step, Next, going, contradiction, surplus, run, start}
-use Rattle.speck.specs.Receiver.{openPlanes, Headed}
-use Rattle.speck.specs.Laws.{onward, asked, Asking-gives-survey}
-use Rattle.speck.proofs.Geometry.{whole, square-in}
-use Rattle.speck.proofs.Tells.{anySignificant-yes}
-use Rattle.speck.proofs.Upper.{some-upper}
-use Rattle.speck.proofs.Steps.{Asks}
-use Rattle.speck.proofs.Trace.{Trace, trace-run, begins, past-end}
-use Rattle.speck.proofs.Walk.{Whole, survey-walk}
+use Rattle.speck.specs.Receiver.{openPlanes, Headed, Prefix}
+use Rattle.speck.specs.Laws.{onward, asked, Asking-gives-survey, Asks-on, Question-is-next}
+use Rattle.speck.proofs.Steps.{Asks, Goes}
+use Rattle.speck.proofs.Trace.{Trace, trace-run, run-++, back-run, goes-on, begins, past-end}
+use Rattle.speck.proofs.Theorems.{start-in, surveyed}
 
 -- what is asked leads to a state that is not refused
 record Reached (g : Grid) (bs : List Bool) (t : Next) : Type 0 where
@@ -121,16 +118,9 @@ enough g (suc n) (sign m r c free noes old new) (y ∷ ys) w f h l = enough-more
 enough g (suc n) (refinement m e todo done noes new) (y ∷ ys) w f h l = enough-more g n (enough g n) (refinement m e todo done noes new) tt y ys w f h (omega arith)
 enough g (suc n) (finished noes old) (y ∷ ys) w f h l = absurd (past-end g ys (finished w f) (h .1))
 
--- the survey of a grid of the head is a whole run
-surveyed : (x k P : ℕ) (g : Grid) → Headed (x + k) P g → Whole g (survey x k P g) (going (start x k P))
-surveyed x k zero g h = record { waits = Block x 0 0 ∷ outside k x; finds = []; trace = refl }
-surveyed x k (suc n) g h =
-    let t = h .top in
-    survey-walk x k n g (anySignificant-yes g n (Block x 0 0 ∷ outside k x) (record { row = t .0; column = t .1; there = omega (arith, whole x k (t .0) (t .1), square-in (x + k) (t .0) (t .1) (t .2 .row) (t .2 .column)); big = some-upper n (magnitude (g (t .0) (t .1))) (t .3) }))
-
 pub asking-gives : Asking-gives-survey
 asking-gives x k P g h n =
-    let w = surveyed x k P g h in
+    let w = surveyed x k P g (start-in x k P g h) in
     let bs : List Bool = asked g n (start x k P) in
     let t : Next = going (start x k P) in
     let y : Reached g bs t = asked-trace g n (start x k P) (survey x k P g) (w .waits) (w .finds) (w .trace) in
@@ -144,3 +134,34 @@ asking-gives x k P g h n =
       ),
       enough g n (start x k P) (survey x k P g) (w .waits) (w .finds) (w .trace),
     )
+
+-- the next of a string's bits, where g answers it and a bit is left
+next-of : (g : Grid) (bits : List Bool) (c : Bool) (cs all : List Bool) → bits ++ c ∷ cs ≡ all → (b : Bool) → b ≡ c → Prefix (bits ++ b ∷ []) all
+next-of g bits c cs all e b h = (cs, append-assoc bits (b ∷ []) cs ∙ (ap (λ d. bits ++ d ∷ cs) h ∙ e))
+
+next-asked : (g : Grid) (bits : List Bool) (s : State) (c : Bool) (cs all : List Bool) (w : List Part) (f : List Found) → bits ++ c ∷ cs ≡ all → Trace g (c ∷ cs) (going s) (going (finished w f)) → Asks-on (ask s) g bits all
+next-asked g bits (owing n p ps free noes old new) c cs all w f e h = next-of g bits c cs all e _ (h .0)
+next-asked g bits (asking n p free noes old new) c cs all w f e h = next-of g bits c cs all e _ (h .0)
+next-asked g bits (sign n r j free noes old new) c cs all w f e h = next-of g bits c cs all e _ (h .0)
+next-asked g bits (refinement n a todo done noes new) c cs all w f e h = next-of g bits c cs all e _ (h .0)
+next-asked g bits (finished noes old) c cs all w f e h = absurd (past-end g cs (finished w f) (h .1))
+
+abbrev stateIn : State → Next → State
+stateIn d (going s) = s
+stateIn d contradiction = d
+stateIn d surplus = d
+
+pub question-is-next : Question-is-next
+question-is-next x k P g bits s h p e =
+    let c = start-in x k P g h in
+    let w = surveyed x k P g c in
+    let t : Next = going (start x k P) in
+    let z : State = finished (w .waits) (w .finds) in
+    let o = goes-on g (survey x k P g) t z c (w .trace) in
+    let r : run (going s) (p .0) ≡ going z = ap (λ u. run u (p .0)) (sym e) ∙ (sym (run-++ bits (p .0) t) ∙ (ap (run t) (p .1) ∙ trace-run g (survey x k P g) t (going z) (w .trace))) in
+    let b = back-run g (p .0) (going s) (subst (λ u. Goes u g) (sym r) o) in
+    by (p .0) (p .1) z (w .waits) (w .finds) refl r (subst (Trace g (p .0) (going s)) r (b .1))
+  where
+    by : (cs : List Bool) → bits ++ cs ≡ survey x k P g → (z : State) (v : List Part) (f : List Found) → z ≡ finished v f → run (going s) cs ≡ going z → Trace g cs (going s) (going z) → Asks-on (ask s) g bits (survey x k P g)
+    by [] q z v f y r h = subst (λ d. Asks-on (ask d) g bits (survey x k P g)) (sym (ap (stateIn s) r ∙ y)) (sym (append-nil bits) ∙ q)
+    by (d ∷ cs) q z v f y r h = next-asked g bits s d cs (survey x k P g) v f q (subst (λ a. Trace g (d ∷ cs) (going s) (going a)) y h)

@@ -26,7 +26,7 @@ use Rattle.speck.proofs.Final.{near}
 use Rattle.speck.proofs.Fill.{fill, filled}
 
 -- D: the first state allows the grids of the head
-start-in : (x k P : ℕ) (g : Grid) → Headed (x + k) P g → Possible (start x k P) g
+pub start-in : (x k P : ℕ) (g : Grid) → Headed (x + k) P g → Possible (start x k P) g
 start-in x k zero g h = record { calm = λ i j c. none-upper 0 (magnitude (g i j)) (h .below i j (record { row = square-row (x + k) i j (omega (arith, whole x k i j)); column = square-col (x + k) i j (omega (arith, whole x k i j)) })); known = tt }
 start-in x k (suc n) g h = (
   record { waits = λ i j c. none-upper (suc n) (magnitude (g i j)) (h .below i j (record { row = square-row (x + k) i j (omega (arith, whole x k i j, coverage-++ (outside k x) [] i j)); column = square-col (x + k) i j (omega (arith, whole x k i j, coverage-++ (outside k x) [] i j)) })); calm = λ i j c. absurd (omega arith); known = tt; fresh = tt },
@@ -43,7 +43,7 @@ start-out x k (suc n) g c =
     }
 
 -- the survey is a whole run
-surveyed : (x k P : ℕ) (g : Grid) → Possible (start x k P) g → Whole g (survey x k P g) (going (start x k P))
+pub surveyed : (x k P : ℕ) (g : Grid) → Possible (start x k P) g → Whole g (survey x k P g) (going (start x k P))
 surveyed x k zero g c = record { waits = Block x 0 0 ∷ outside k x; finds = []; trace = refl }
 surveyed x k (suc n) g c = survey-walk x k n g (anySignificant-yes g n (Block x 0 0 ∷ outside k x) (c .1))
 

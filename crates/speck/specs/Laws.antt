@@ -1,6 +1,6 @@
 -- Laws of the survey, in the words of the field.
 use mathlib.Core.Path.{_≡_}
-use mathlib.Core.List.{List, [], _∷_}
+use mathlib.Core.List.{List, [], _∷_, _++_}
 use mathlib.Core.Bool.{Bool, true, _||_}
 use Prim.Native.Nat.{ℕ, zero, suc, _+_, _^_, _≤_, _<_}
 use lib.ListN.{length}
@@ -8,7 +8,7 @@ use Rattle.speck.specs.declared.Part.{Part}
 use Rattle.speck.specs.declared.Part.the-variants.{Block}
 use Rattle.speck.specs.Grid.{Grid, magnitude, significant, inside, coverage}
 use Rattle.speck.specs.Survey.{Found, survey}
-use Rattle.speck.specs.Machine.{State, owing, asking, sign, refinement, finished, ask, answer, step, Next, going, contradiction, surplus, run, start}
+use Rattle.speck.specs.Machine.{State, owing, asking, sign, refinement, finished, Question, significant?, negative?, bit?, nothing?, ask, answer, step, Next, going, contradiction, surplus, run, start}
 use Rattle.speck.specs.Receiver.{openPlanes, InGrid, Headed, Prefix}
 
 -- the receiver takes the bits
@@ -89,3 +89,14 @@ Asking-gives-survey = (x k P : ℕ) (g : Grid) → Headed (x + k) P g → (n : �
     × (openPlanes s ≡ 0 → asked g n (start x k P) ≡ survey x k P g)
     × (asked g n (start x k P) ≡ survey x k P g → openPlanes s ≡ 0))
     × (length (survey x k P g) ≤ n → asked g n (start x k P) ≡ survey x k P g)
+
+-- a question's place in a string of bits: with g's answer behind them the bits are still the first of the string, or they are the whole string and nothing is asked
+abbrev pub Asks-on : Question → Grid → List Bool → List Bool → Type 0
+Asks-on (significant? n p) g bits all = Prefix (bits ++ answer g (significant? n p) ∷ []) all
+Asks-on (negative? r c) g bits all = Prefix (bits ++ answer g (negative? r c) ∷ []) all
+Asks-on (bit? n e) g bits all = Prefix (bits ++ answer g (bit? n e) ∷ []) all
+Asks-on nothing? g bits all = bits ≡ all
+
+-- after the first bits of a survey the question asked is the survey's next
+abbrev pub Question-is-next : Type 0
+Question-is-next = (x k P : ℕ) (g : Grid) (bits : List Bool) (s : State) → Headed (x + k) P g → Prefix bits (survey x k P g) → run (going (start x k P)) bits ≡ going s → Asks-on (ask s) g bits (survey x k P g)

@@ -1,4 +1,4 @@
-use Rattle.speck.proofs.Asking.{asking-gives}
+use Rattle.speck.proofs.Asking.{asking-gives, question-is-next}
 use Rattle.speck.proofs.Bare.{places-suffice}
 use Rattle.speck.proofs.Consequences.{by-parts, one-count, one-place, refused, significance}
 use Rattle.speck.proofs.Length.{survey-length}
@@ -8,6 +8,7 @@ use Rattle.speck.proofs.laws.laws.Needs as need
 pub returns : need.returns
 returns c = record {
   asking-gives-the-survey = asking-gives;
+  question-is-next = question-is-next;
   surveys-give-grids = gives-grid;
   wholes-are-surveys = honest;
   refused-exactly = refused;
