@@ -1,11 +1,16 @@
 ghost use mathlib.Core.Path.{_≡_};
-ghost use Prim.Native.Nat.{_-_};
+ghost use mathlib.Core.Bool.{Bool};
+ghost use mathlib.Core.List.{List, [], _∷_, _++_};
+ghost use Prim.Native.Nat.{ℕ, _+_, _-_};
 ghost use Rattle.std.specs.Results.{Cases as ByOk};
 ghost use Rattle.std.specs.Vec.{made};
 ghost use Rattle.speck.specs.Machine.{ask, start};
 ghost use Rattle.speck.specs.Places.{placeStep};
-ghost use Rattle.speck.specs.Receiver.{openPlanes};
-ghost use Rattle.walk.specs.Walks.{asks, nextOf, stateOf};
+ghost use Rattle.speck.specs.Grid.{Grid};
+ghost use Rattle.speck.specs.Laws.{Asks-on};
+ghost use Rattle.speck.specs.Receiver.{Headed, Prefix, openPlanes};
+ghost use Rattle.speck.specs.Survey.{survey};
+ghost use Rattle.walk.specs.Walks.{Follows, Judged, asks, nextOf, stateOf};
 use super::*;
 use head::Head;
 use speck::Part;
@@ -15,7 +20,8 @@ use std::alloc::Global;
 impl Walk {
     // The walk of a survey with this head, at its beginning. All the memory it will need is reserved here.
     pub fn open(head: Head, heap: Global) -> Result<Walk, AllocError>
-        ensures { λ r. ⌜ made r (λ w. stateOf w ≡ start (head .shape .exponent - head .shape .levels) (head .shape .levels) (head .planes)) ⌝ }
+        ensures state { λ r. ⌜ made r (λ w. stateOf w ≡ start (head .shape .exponent - head .shape .levels) (head .shape .levels) (head .planes)) ⌝ }
+        ensures follows { λ r. ⌜ made r (λ w. Follows w (head .shape .exponent - head .shape .levels) (head .shape .levels) (head .planes) []) ⌝ }
     {
         let shape = head.shape();
         let levels = shape.levels();
@@ -36,7 +42,8 @@ impl Walk {
 
     // What the next bit answers.
     pub fn question(&self) -> Question
-        ensures { λ r. ⌜ asks r ≡ ask (stateOf (now (self .entry))) ⌝ }
+        ensures machine { λ r. ⌜ asks r ≡ ask (stateOf (now (self .entry))) ⌝ }
+        ensures next { λ r. ⌜ ((x k P : ℕ) (bits : List Bool) (g : Grid) → Follows (now (self .entry)) x k P bits → Headed (x + k) P g → Prefix bits (survey x k P g) → Asks-on (asks r) g bits (survey x k P g)) ⌝ }
     {
         let plane = self.lists.plane;
         match self.asking {
@@ -65,6 +72,7 @@ impl Walk {
     // Takes the answer to the question. A refused one changes nothing.
     pub fn step(&mut self, answer: bool) -> Result<(), BitFault>
         ensures goes { λ r. ⌜ nextOf r (stateOf (now (self .exit))) ≡ placeStep (stateOf (now (self .entry))) answer ⌝ }
+        ensures judged { λ r. ⌜ ((x k P : ℕ) (bits : List Bool) → Follows (now (self .entry)) x k P bits → Judged r (now (self .exit)) x k P (bits ++ answer ∷ [])) ⌝ }
         ensures stays { λ r. ⌜ ByOk r (λ _. Unit {0}) (λ _. now (self .exit) ≡ now (self .entry)) ⌝ }
     {
         match (self.asking, answer) {
