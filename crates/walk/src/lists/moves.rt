@@ -83,53 +83,71 @@ impl Lists {
                 if side == 0 {
                     return Asking::Sign { row, column };
                 }
-                let side = side - 1;
-                let half = extent(side);
-                let b = Part::Block {
-                    side,
-                    row,
-                    column: column + half,
-                };
-                let c = Part::Block {
-                    side,
-                    row: row + half,
-                    column,
-                };
-                let d = Part::Block {
-                    side,
-                    row: row + half,
-                    column: column + half,
-                };
-                self.pending.put_three(b, c, d);
-                Asking::Quarter {
-                    part: Part::Block { side, row, column },
-                    left: 3,
-                }
+                self.quarter(side, row, column)
             }
-            Part::Rest { deeper, side } => {
-                let half = extent(side);
-                let more = self.pending.put_outside(deeper, side + 1);
-                self.pending.put_two(
-                    Part::Block {
-                        side,
-                        row: half,
-                        column: 0,
-                    },
-                    Part::Block {
-                        side,
-                        row: half,
-                        column: half,
-                    },
-                );
-                Asking::Quarter {
-                    part: Part::Block {
-                        side,
-                        row: 0,
-                        column: half,
-                    },
-                    left: 2 + more,
-                }
-            }
+            Part::Rest { deeper, side } => self.widen(deeper, side),
+        }
+    }
+
+    // The quarters of a block, of which one has to say yes.
+    fn quarter(&mut self, side: u8, row: u8, column: u8) -> Asking
+        requires some { ⌜ 0 < side ⌝ }
+        requires within { ⌜ Within (Part.Block side row column) ⌝ }
+        requires sorts { ⌜ Sorts (area (Part.Block side row column)) (now self) ⌝ }
+        ensures state { λ r. ⌜ stateIn r (now (self .exit)) ≡ opened (now (self .entry) .plane) (view (Part.Block side row column)) (todoOf (now (self .entry))) (noesOf (now (self .entry))) (oldOf (now (self .entry))) (newOf (now (self .entry))) ⌝ }
+        ensures good { λ r. ⌜ Good r (now (self .exit)) ⌝ }
+    {
+        let side = side - 1;
+        let half = extent(side);
+        let b = Part::Block {
+            side,
+            row,
+            column: column + half,
+        };
+        let c = Part::Block {
+            side,
+            row: row + half,
+            column,
+        };
+        let d = Part::Block {
+            side,
+            row: row + half,
+            column: column + half,
+        };
+        self.pending.put_three(b, c, d);
+        Asking::Quarter {
+            part: Part::Block { side, row, column },
+            left: 3,
+        }
+    }
+
+    // The three blocks around the square and the new rest, of which one has to say yes.
+    fn widen(&mut self, deeper: u8, side: u8) -> Asking
+        requires within { ⌜ Within (Part.Rest deeper side) ⌝ }
+        requires sorts { ⌜ Sorts (area (Part.Rest deeper side)) (now self) ⌝ }
+        ensures state { λ r. ⌜ stateIn r (now (self .exit)) ≡ opened (now (self .entry) .plane) (view (Part.Rest deeper side)) (todoOf (now (self .entry))) (noesOf (now (self .entry))) (oldOf (now (self .entry))) (newOf (now (self .entry))) ⌝ }
+        ensures good { λ r. ⌜ Good r (now (self .exit)) ⌝ }
+    {
+        let half = extent(side);
+        let more = self.pending.put_outside(deeper, side + 1);
+        let below = Part::Block {
+            side,
+            row: half,
+            column: 0,
+        };
+        let across = Part::Block {
+            side,
+            row: half,
+            column: half,
+        };
+        self.pending.put_two(below, across);
+        Asking::Quarter {
+            part: Part::Block {
+                side,
+                row: 0,
+                column: half,
+            },
+            left: 2 + more,
         }
     }
 
