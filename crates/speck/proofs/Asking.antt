@@ -13,7 +13,7 @@ use Rattle.speck.specs.Machine.{State, owing, asking, sign, refinement, finish
 use Rattle.speck.specs.Receiver.{openPlanes, Headed, Prefix}
 use Rattle.speck.specs.Laws.{onward, asked, Asking-gives-survey, Asks-on, Question-is-next}
 use Rattle.speck.proofs.Steps.{Asks, Goes}
-use Rattle.speck.proofs.Trace.{Trace, trace-run, run-++, back-run, goes-on, begins, past-end}
+use Rattle.speck.proofs.Trace.{Trace, trace-run, run-++, back-run, goes-on, begins, past-end, IsOn, stateAt}
 use Rattle.speck.proofs.Theorems.{start-in, surveyed}
 
 -- what is asked leads to a state that is not refused
@@ -39,15 +39,9 @@ finished-asks-none g (suc n) w f = refl
 ended : (g : Grid) (n : ℕ) (s : State) (w : List Part) (f : List Found) → going s ≡ going (finished w f) → asked g n s ≡ []
 ended g n s w f e = ap (onward (asked g n)) e ∙ finished-asks-none g n w f
 
-Is-going : Next → Type 0
-Is-going (going s) = Unit {0}
-Is-going contradiction = ⊥
-Is-going surplus = ⊥
-
 -- no run goes on from a refusal
 past-refusal : (g : Grid) (bs : List Bool) (s : State) → Trace g bs contradiction (going s) → ⊥
-unfolding Is-going
-past-refusal g [] s h = subst Is-going (sym h) tt
+past-refusal g [] s h = subst IsOn (sym h) tt
 past-refusal g (b ∷ bs) s h = h
 
 -- where g answers a whole run, each answer that is asked for is taken
@@ -146,11 +140,6 @@ next-asked g bits (sign n r j free noes old new) c cs all w f e h = next-of g bi
 next-asked g bits (refinement n a todo done noes new) c cs all w f e h = next-of g bits c cs all e _ (h .0)
 next-asked g bits (finished noes old) c cs all w f e h = absurd (past-end g cs (finished w f) (h .1))
 
-abbrev stateIn : State → Next → State
-stateIn d (going s) = s
-stateIn d contradiction = d
-stateIn d surplus = d
-
 pub question-is-next : Question-is-next
 question-is-next x k P g bits s h p e =
     let c = start-in x k P g h in
@@ -163,5 +152,5 @@ question-is-next x k P g bits s h p e =
     by (p .0) (p .1) z (w .waits) (w .finds) refl r (subst (Trace g (p .0) (going s)) r (b .1))
   where
     by : (cs : List Bool) → bits ++ cs ≡ survey x k P g → (z : State) (v : List Part) (f : List Found) → z ≡ finished v f → run (going s) cs ≡ going z → Trace g cs (going s) (going z) → Asks-on (ask s) g bits (survey x k P g)
-    by [] q z v f y r h = subst (λ d. Asks-on (ask d) g bits (survey x k P g)) (sym (ap (stateIn s) r ∙ y)) (sym (append-nil bits) ∙ q)
+    by [] q z v f y r h = subst (λ d. Asks-on (ask d) g bits (survey x k P g)) (sym (ap (stateAt s) r ∙ y)) (sym (append-nil bits) ∙ q)
     by (d ∷ cs) q z v f y r h = next-asked g bits s d cs (survey x k P g) v f q (subst (λ a. Trace g (d ∷ cs) (going s) (going a)) y h)

@@ -18,7 +18,7 @@ use Rattle.speck.proofs.Possible.{Insignificant, Significant, Base, Over, Poss
 use Rattle.speck.proofs.Geometry.{whole, square-one, square-in, square-row, square-col}
 use Rattle.speck.proofs.Tells.{anySignificant-yes}
 use Rattle.speck.proofs.Steps.{Goes}
-use Rattle.speck.proofs.Trace.{Trace, trace-run, run-++, back-run, goes-on, begins, past-end}
+use Rattle.speck.proofs.Trace.{Trace, trace-run, run-++, back-run, goes-on, begins, IsOn}
 use Rattle.speck.proofs.Walk.{Whole, survey-walk, planes-walk}
 use Rattle.speck.proofs.Count.{count, Sound, Sounds, run-count, start-count, run-sound, start-sound, All-at}
 use Rattle.speck.proofs.Upper.{upper-none, none-upper, upper-some, some-upper}
@@ -102,14 +102,9 @@ run-surplus : (cs : List Bool) → run surplus cs ≡ surplus
 run-surplus [] = refl
 run-surplus (c ∷ cs) = run-surplus cs
 
-abbrev Is-on : Next → Type 0
-Is-on (going s) = Unit {0}
-Is-on contradiction = ⊥
-Is-on surplus = ⊥
-
 no-more : (w : List Part) (f : List Found) (cs : List Bool) (s : State) → run (going (finished w f)) cs ≡ going s → cs ≡ []
 no-more w f [] s e = refl
-no-more w f (c ∷ cs) s e = absurd (subst Is-on (sym e ∙ run-surplus cs) tt)
+no-more w f (c ∷ cs) s e = absurd (subst IsOn (sym e ∙ run-surplus cs) tt)
 
 allows : (x k P : ℕ) (bits : List Bool) (w : List Part) (f : List Found) → run (going (start x k P)) bits ≡ going (finished w f) → Possible (finished w f) (known (finished w f))
 unfolding fill

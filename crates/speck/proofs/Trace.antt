@@ -44,13 +44,19 @@ back-run g (b ∷ bs) (going s) h =
 back-run g (b ∷ bs) contradiction h = absurd (back-run g bs contradiction h .0)
 back-run g (b ∷ bs) surplus h = absurd (back-run g bs surplus h .0)
 
-IsOn : Next → Type 0
+-- it is no refusal
+abbrev pub IsOn : Next → Type 0
 IsOn (going s) = Unit {0}
 IsOn contradiction = ⊥
 IsOn surplus = ⊥
 
+-- its state, or d where there is none
+abbrev pub stateAt : State → Next → State
+stateAt d (going s) = s
+stateAt d contradiction = d
+stateAt d surplus = d
+
 pub past-end : (g : Grid) (bs : List Bool) (s : State) → Trace g bs surplus (going s) → ⊥
-unfolding IsOn
 past-end g [] s h = subst IsOn (sym h) tt
 past-end g (b ∷ bs) s h = h
 

@@ -14,7 +14,7 @@ use Rattle.speck.specs.Survey.{survey}
 use Rattle.speck.proofs.Asking.{question-is-next}
 use Rattle.speck.proofs.Bare.{places-suffice}
 use Rattle.speck.proofs.Consequences.{refused}
-use Rattle.speck.proofs.Trace.{run-++}
+use Rattle.speck.proofs.Trace.{IsOn, run-++, stateAt}
 use Rattle.walk.specs.declared.Walk.{Walk}
 use Rattle.walk.specs.declared.asking.Asking.{Asking}
 use Rattle.walk.specs.declared.asking.BitFault.{BitFault}
@@ -30,28 +30,18 @@ bare-start x k (suc n) = refl
 pub opens : (w : Walk) (x k P : ℕ) → stateOf w ≡ start x k P → Follows w x k P []
 opens w x k P e = record { state = start x k P; reached = refl; places = e ∙ sym (bare-start x k P) }
 
-abbrev Is-on : Next → Type 0
-Is-on (going s) = Unit {0}
-Is-on contradiction = ⊥
-Is-on surplus = ⊥
-
-abbrev stateAt : State → Next → State
-stateAt d (going s) = s
-stateAt d contradiction = d
-stateAt d surplus = d
-
 taken : (w : Walk) (x k P : ℕ) (bits : List Bool) (u : Next) → run (going (start x k P)) bits ≡ u → bareNext u ≡ going (stateOf w) → Follows w x k P bits × Begins-a-survey x k P bits
 taken w x k P bits (going s) e h = (record { state = s; reached = e; places = sym (ap (stateAt s) h) }, refused x k P bits .0 (s, e))
-taken w x k P bits contradiction e h = absurd (subst Is-on (sym h) tt)
-taken w x k P bits surplus e h = absurd (subst Is-on (sym h) tt)
+taken w x k P bits contradiction e h = absurd (subst IsOn (sym h) tt)
+taken w x k P bits surplus e h = absurd (subst IsOn (sym h) tt)
 
-off : (e : BitFault) (s : State) → Is-on (nextOf (Err e) s) → ⊥
+off : (e : BitFault) (s : State) → IsOn (nextOf (Err e) s) → ⊥
 off fault.Contradiction s h = h
 off fault.Surplus s h = h
 
 judge : (w : Walk) (r : Result (Unit {0}) BitFault) (x k P : ℕ) (bits : List Bool) → bareNext (run (going (start x k P)) bits) ≡ nextOf r (stateOf w) → Judged r w x k P bits
 judge w (Ok _) x k P bits h = taken w x k P bits (run (going (start x k P)) bits) refl h
-judge w (Err e) x k P bits h = λ b. let t = refused x k P bits .1 b in off e (stateOf w) (subst Is-on (sym (ap bareNext (t .1)) ∙ h) tt)
+judge w (Err e) x k P bits h = λ b. let t = refused x k P bits .1 b in off e (stateOf w) (subst IsOn (sym (ap bareNext (t .1)) ∙ h) tt)
 
 -- a step on what is asked and answered
 pub moved : {a d : Asking} {b e : Bool} (l : Lists) → a ≡ d → b ≡ e → placeStep (stateIn d l) e ≡ placeStep (stateIn a l) b
