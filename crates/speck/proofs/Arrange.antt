@@ -1,4 +1,4 @@
--- `arrange` is the order of the rules.
+-- The two ways to say the order of waiting parts are one.
 use mathlib.Core.Path.{_≡_, refl, sym, _∙_, ap, subst}
 use mathlib.Core.List.{List, [], _∷_, _++_, append-nil, append-assoc}
 use mathlib.Core.Bool.{Bool, true, false, cond}

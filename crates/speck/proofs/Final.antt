@@ -1,4 +1,4 @@
--- The four theorems.
+-- A grid that a state allows is near to what the state tells of it, at every cell.
 use mathlib.Core.Path.{_≡_, refl, sym, _∙_, ap, subst}
 use mathlib.Core.List.{List, [], _∷_, _++_, map, append-assoc, append-nil}
 use mathlib.Core.Bool.{Bool, true, false, cond, _&&_}

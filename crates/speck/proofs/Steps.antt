@@ -111,7 +111,7 @@ bit-out g n e b f = (record { size = half (upper n (magnitude (g (e .row) (e .co
     last x v true h = grind (arith, tests)
     last x v false h = grind (arith, tests)
 
--- A: the right answer leads on
+-- forward: the right answer leads on
 pub forward : (s : State) (g : Grid) → Asks s → Possible s g → Goes (step s (answer g (ask s))) g
 forward (owing n p ps free noes old new) g a c = at ps c (significant g n p) refl
   where
@@ -130,7 +130,7 @@ forward (refinement n e todo done noes new) g a t =
     (record { calm = t .calm; known = t .known .1; refined = Known-++ g n done _ (t .refined) (bit-in g n e (t .known .0), tt); fresh = t .fresh })
 forward (finished noes old) g a c = absurd a
 
--- B: an answer that leads to what g allows was the right one
+-- backward: an answer that leads to what g allows was the right one
 pub backward : (s : State) (b : Bool) (g : Grid) → Goes (step s b) g → Possible s g × (answer g (ask s) ≡ b)
 backward (owing n p ps free noes old new) true g c =
     let y = yes-out g n p (view p) (made p) (ps ++ free) noes old new c in

@@ -1,4 +1,4 @@
--- What the receiver and the survey are to each other.
+-- What the machine and the survey are to each other.
 use mathlib.Core.Path.{_≡_, refl, sym, _∙_, ap, subst}
 use mathlib.Core.List.{List, [], _∷_, _++_, append-nil}
 use mathlib.Core.Bool.{Bool, true, false}
@@ -25,7 +25,7 @@ use Rattle.speck.proofs.Upper.{upper-none, none-upper, upper-some, some-upper}
 use Rattle.speck.proofs.Final.{near}
 use Rattle.speck.proofs.Fill.{fill, filled}
 
--- D: the first state allows the grids of the head
+-- the first state allows the grids of the head
 pub start-in : (x k P : ℕ) (g : Grid) → Headed (x + k) P g → Possible (start x k P) g
 start-in x k zero g h = record { calm = λ i j c. none-upper 0 (magnitude (g i j)) (h .below i j (record { row = square-row (x + k) i j (omega (arith, whole x k i j)); column = square-col (x + k) i j (omega (arith, whole x k i j)) })); known = tt }
 start-in x k (suc n) g h = (

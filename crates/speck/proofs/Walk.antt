@@ -1,4 +1,4 @@
--- The survey is what the receiver's questions are answered by.
+-- The survey is what the questions of the machine are answered by.
 use mathlib.Core.Path.{_≡_, refl, sym, _∙_, ap, subst}
 use mathlib.Core.List.{List, [], _∷_, _++_, map, append-assoc, append-nil}
 use mathlib.Core.Bool.{Bool, true, false, cond, _||_}

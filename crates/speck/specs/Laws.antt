@@ -11,7 +11,7 @@ use Rattle.speck.specs.Survey.{Found, survey}
 use Rattle.speck.specs.Machine.{State, owing, asking, sign, refinement, finished, Question, significant?, negative?, bit?, nothing?, ask, answer, step, Next, going, contradiction, surplus, run, start}
 use Rattle.speck.specs.Receiver.{openPlanes, InGrid, Headed, Prefix}
 
--- the receiver takes the bits
+-- the machine takes the bits
 abbrev pub Taken : ℕ → ℕ → ℕ → List Bool → Type 0
 Taken x k P bits = (s : State) × (run (going (start x k P)) bits ≡ going s)
 
@@ -19,7 +19,7 @@ Taken x k P bits = (s : State) × (run (going (start x k P)) bits ≡ going s)
 abbrev pub Begins-a-survey : ℕ → ℕ → ℕ → List Bool → Type 0
 Begins-a-survey x k P bits = (g : Grid) × Headed (x + k) P g × Prefix bits (survey x k P g)
 
--- the receiver refuses just those bits that no survey of its head begins with
+-- the machine refuses just those bits that no survey of its head begins with
 abbrev pub Refused-exactly : Type 0
 Refused-exactly = (x k P : ℕ) (bits : List Bool) → (Taken x k P bits → Begins-a-survey x k P bits) × (Begins-a-survey x k P bits → Taken x k P bits)
 
@@ -61,7 +61,7 @@ One-plane-count = (m : ℕ) (g : Grid) → ((P : ℕ) × Headed m P g) × ((P Q 
 abbrev pub Survey-length : Type 0
 Survey-length = (x k P : ℕ) (g : Grid) → x + k ≤ 6 → P ≤ 15 → length (survey x k P g) ≤ 86101
 
--- what comes after an answer, if the receiver goes on
+-- what comes after an answer, if the machine goes on
 abbrev pub onward : (State → List Bool) → Next → List Bool
 onward f (going s) = f s
 onward f contradiction = []
@@ -71,7 +71,7 @@ onward f surplus = []
 abbrev pub written : Grid → (State → List Bool) → State → List Bool
 written g f s = answer g (ask s) ∷ onward f (step s (answer g (ask s)))
 
--- what a sender writes that asks the receiver's next question of the grid, writes the answer and steps on, n times at most
+-- what a sender writes that asks the machine's next question of the grid, writes the answer and steps on, n times at most
 abbrev pub asked : Grid → ℕ → State → List Bool
 asked g zero s = []
 asked g (suc n) (owing m p ps free noes old new) = written g (asked g n) (owing m p ps free noes old new)
@@ -80,7 +80,7 @@ asked g (suc n) (sign m r c free noes old new) = written g (asked g n) (sign m r
 asked g (suc n) (refinement m e todo done noes new) = written g (asked g n) (refinement m e todo done noes new)
 asked g (suc n) (finished noes old) = []
 
--- such a sender writes the survey: what it has written begins the survey, is taken by the receiver, leaves no plane open
+-- such a sender writes the survey: what it has written begins the survey, is taken by the machine, leaves no plane open
 -- just when it is the whole survey, and is the whole survey after as many questions as the survey has bits
 abbrev pub Asking-gives-survey : Type 0
 Asking-gives-survey = (x k P : ℕ) (g : Grid) → Headed (x + k) P g → (n : ℕ) →

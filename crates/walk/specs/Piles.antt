@@ -1,3 +1,4 @@
+-- A pile as the list of its parts, the next one first, and the room that is reserved for it.
 use mathlib.Core.List.{List, reverse}
 use Prim.Native.Nat.{ℕ}
 use Rattle.speck.specs.declared.Part.{Part}
