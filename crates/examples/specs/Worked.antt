@@ -1,10 +1,10 @@
 use mathlib.Core.Path.{_≡_}
-use mathlib.Core.List.{List, [], _∷_}
+use mathlib.Core.List.{[], _∷_}
 use mathlib.Core.Bool.{Bool, true, false}
 use Prim.Native.Nat.{ℕ}
-use lib.IntN.{ℤ, pos, negsuc}
+use lib.IntN.{pos, negsuc}
 use lib.ListN.{take}
-use Rattle.speck.specs.Machine.{Next, contradiction, going, owing, run, start}
+use Rattle.speck.specs.Machine.{contradiction, going, owing, run, start}
 use Rattle.speck.specs.Survey.{survey}
 use Rattle.speck.specs.declared.Part.the-variants.{Block, Rest}
 use Rattle.transform.specs.Transform.{Grid, On, differenceOf, gridOf, lowOf, transform}

@@ -1,5 +1,4 @@
 ghost use mathlib.Core.Path.{_≡_};
-ghost use mathlib.Core.Bool.{cond};
 ghost use Prim.Native.Nat.{_^_};
 ghost use lib.ListN.{replicate};
 ghost use Rattle.std.specs.Of.Vec.{vec-items};
@@ -7,8 +6,7 @@ ghost use Rattle.std.specs.Vec.{made};
 ghost use Rattle.std.specs.declared.option.Option.the-variants.{None, Some};
 ghost use Rattle.frame.specs.Cells.{inSpan};
 ghost use Rattle.head.specs.Faults.{Answers};
-ghost use Rattle.frame.specs.Frames.{entered, entryFault, heightsOf, refusalOf};
-ghost use Rattle.head.specs.Heads.{inside};
+ghost use Rattle.frame.specs.Frames.{entered, entryFault, refusalOf};
 ghost use Rattle.frame.specs.declared.FrameFault.the-variants.{Cell};
 use super::*;
 use head::refusals::Refusal;

@@ -1,6 +1,5 @@
 ghost use mathlib.Core.Path.{_≡_};
 ghost use mathlib.Core.List.{[], _∷_};
-ghost use lib.ListN.{getD};
 ghost use Rattle.head.specs.Faults.{Answers};
 ghost use Rattle.head.specs.Heads.{HeadAt, bytesFault};
 use super::*;

@@ -1,6 +1,6 @@
 // Halving a pair and undoing it, exactly, in 32 bits.
 ghost use mathlib.Core.Path.{_≡_};
-ghost use Prim.Native.Nat.{_+_, _/_, _≤_};
+ghost use Prim.Native.Nat.{_+_, _≤_};
 ghost use lib.IntN.{pos, natAbs, _+ℤ_};
 ghost use Rattle.transform.specs.Transform.{differenceOf, firstOf, floorHalf, lowOf, secondOf};
 

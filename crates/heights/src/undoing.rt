@@ -1,8 +1,8 @@
 // Reading heights out of coefficients, by undoing the transform.
-ghost use mathlib.Core.Bool.{cond, _&&_};
+ghost use mathlib.Core.Bool.{cond};
 ghost use mathlib.Core.Path.{_≡_};
-ghost use Prim.Native.Nat.{ℕ, _+_, _*_, _-_, _/_, _%_, _^_, _<_, _≤_};
-ghost use lib.Dec.{leb, ltb};
+ghost use Prim.Native.Nat.{ℕ, _+_, _*_, _/_, _%_, _^_, _<_, _≤_};
+ghost use lib.Dec.{leb};
 ghost use lib.IntN.{ℤ, natAbs, pos};
 ghost use lib.ListN.{getD, length};
 ghost use Rattle.std.specs.declared.option.Option.the-variants.{None, Some};

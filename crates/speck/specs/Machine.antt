@@ -1,13 +1,11 @@
 -- The question machine: which question comes next, and what its answer does. Both ends step it.
-use mathlib.Core.Path.{_≡_}
 use mathlib.Core.List.{List, [], _∷_, _++_}
-use mathlib.Core.Bool.{Bool, true, false, cond}
-use Prim.Native.Nat.{ℕ, zero, suc, _+_, _-_, _*_, _/_, _%_, _^_, _≤_, _<_}
-use lib.IntN.{ℤ, pos, negsuc}
+use mathlib.Core.Bool.{Bool, true, false}
+use Prim.Native.Nat.{ℕ, zero, suc}
 use Rattle.speck.specs.declared.Part.{Part}
-use Rattle.speck.specs.declared.Part.the-variants.{Block, Rest}
-use Rattle.speck.specs.Grid.{Grid, magnitude, isNegative, signed, upper, outside, View, cell, parts, view, significant}
-use Rattle.speck.specs.Survey.{Found, arranged, refined, odd, bitOf}
+use Rattle.speck.specs.declared.Part.the-variants.{Block}
+use Rattle.speck.specs.Grid.{Grid, isNegative, outside, View, cell, parts, view, significant}
+use Rattle.speck.specs.Survey.{Found, arranged, refined, bitOf}
 
 -- In plane n: a part of a set that said yes and still owes a yes, with the set's other parts; a part that waited or whose set owes nothing; the sign of a cell that said yes; the bit of a found cell; nothing more to ask.
 -- Beside it stand: `free`, what is to be asked in this plane still; `noes`, what said no in it; `old` and `new`, the cells found before it and in it.

@@ -1,6 +1,6 @@
 -- The machine that keeps the places of the found cells alone, and not what is known of them: what a walk steps. The values are for the ends to keep.
 use mathlib.Core.Path.{_≡_}
-use mathlib.Core.List.{List, map}
+use mathlib.Core.List.{map}
 use mathlib.Core.Bool.{Bool, false}
 use Prim.Native.Nat.{ℕ}
 use Rattle.speck.specs.Grid.{Grid}

@@ -1,15 +1,13 @@
 -- What a state tells of the grid, how many planes are open, and the laws over whole runs.
 use mathlib.Core.Path.{_≡_}
 use mathlib.Core.List.{List, [], _∷_, _++_}
-use mathlib.Core.Bool.{Bool, true, false, cond, _&&_}
-use Prim.Native.Nat.{ℕ, zero, suc, _+_, _-_, _*_, _/_, _%_, _^_, _≤_, _<_}
-use lib.IntN.{ℤ, pos, negsuc, _-ℤ_}
+use mathlib.Core.Bool.{Bool, cond, _&&_}
+use Prim.Native.Nat.{ℕ, zero, suc, _+_, _*_, _^_, _≤_, _<_}
+use lib.IntN.{ℤ, pos, _-ℤ_}
 use lib.Dec.{eqb}
-use Rattle.speck.specs.declared.Part.{Part}
-use Rattle.speck.specs.declared.Part.the-variants.{Block, Rest}
-use Rattle.speck.specs.Grid.{Grid, magnitude, isNegative, signed, upper, outside}
+use Rattle.speck.specs.Grid.{Grid, magnitude, signed}
 use Rattle.speck.specs.Survey.{Found, survey}
-use Rattle.speck.specs.Machine.{State, owing, asking, sign, refinement, finished, Next, going, contradiction, surplus, run, start}
+use Rattle.speck.specs.Machine.{State, owing, asking, sign, refinement, finished, going, run, start}
 
 -- A found cell whose bits down to plane n are known: their sum, with 0 below, and its sign.
 unfoldable pub value : ℕ → Found → ℤ

@@ -1,6 +1,6 @@
 // The integer S transform as definitions and laws (specs/ and proofs/), and the error that undoing it admits.
 ghost use mathlib.Core.Path.{_≡_};
-ghost use Prim.Native.Nat.{ℕ, _≤_};
+ghost use Prim.Native.Nat.{_≤_};
 ghost use Rattle.std.specs.Options.{Cases as BySome};
 ghost use Rattle.transform.specs.Errors.{Admitted, Drift-is-growth, boundOf, driftOf, forPlanes};
 

@@ -1,7 +1,7 @@
 -- What the walk's fields stand for in the machine, and what holds of them.
 use mathlib.Core.Path.{_≡_}
 use mathlib.Core.List.{List, [], map}
-use Prim.Native.Nat.{ℕ, zero, suc, _+_, _-_, _*_, _^_, _≤_, _<_}
+use Prim.Native.Nat.{ℕ, _+_, _≤_, _<_}
 use lib.ListN.{length, getD, take, drop}
 use Rattle.speck.specs.declared.Part.{Part}
 use Rattle.speck.specs.declared.Part.the-variants.{Block, Rest}
@@ -10,7 +10,7 @@ use Rattle.walk.specs.declared.asking.Asking.{Asking}
 use Rattle.walk.specs.declared.asking.Asking.the-variants as asking′
 use Rattle.walk.specs.declared.lists.Cell.{Cell}
 use Rattle.walk.specs.declared.lists.Lists.{Lists}
-use Rattle.walk.specs.Parts.{All, Within, ring, area, areas}
+use Rattle.walk.specs.Parts.{All, Within, area, areas}
 use Rattle.walk.specs.Piles.{pileOf, roomOf}
 use Rattle.speck.specs.Places.{placed}
 use Rattle.speck.specs.Machine.{State, owing, asking, sign, refinement, finished}

@@ -1,8 +1,7 @@
 ghost use mathlib.Core.Path.{_≡_};
 ghost use mathlib.Core.List.{[], _∷_, _++_};
-ghost use Prim.Native.Nat.{ℕ, _+_, _^_, _<_, _≤_};
-ghost use lib.ListN.{length, getD, take, drop};
-ghost use Rattle.walk.specs.Piles.{pileOf, roomOf};
+ghost use Prim.Native.Nat.{_+_, _^_, _<_, _≤_};
+ghost use lib.ListN.{length, getD, drop};
 ghost use Rattle.speck.specs.Grid.{view, outside};
 ghost use Rattle.speck.specs.Places.{placeStep as stepped, placed};
 ghost use Rattle.speck.specs.Machine.{enterPlane, refineOn as turned, goOn as gone, unfolded as opened, going, start};
