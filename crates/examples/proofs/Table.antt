@@ -1,4 +1,4 @@
-use mathlib.Core.Path.{_≡_, refl, sym, ap, ap₂, _∙_, fun-ext}
+use mathlib.Core.Path.{_≡_, refl, ap, ap₂, _∙_, fun-ext}
 use mathlib.Core.Bool.{Bool, true, false, cond}
 use lib.Dec.{ltb}
 use mathlib.Core.List.{List, [], _∷_}
@@ -16,7 +16,7 @@ use Rattle.speck.specs.Grid.{significant}
 use Rattle.speck.specs.Machine.{enterPlane}
 use Rattle.speck.specs.Survey.{arranged, askPart, insert}
 use Rattle.transform.specs.Transform.{Grid, On, halved, level, levels, partOf, transform}
-use Rattle.transform.specs.Planes.{Below-planes, PlaneCount}
+use Rattle.transform.specs.Planes.{PlaneCount}
 use Rattle.transform.specs.Errors.{boundOf, driftOf}
 use Rattle.transform.proofs.Levels.{level-in, level-out, transform-local}
 use Rattle.examples.specs.Worked.{Worked-examples, coefficients2, map2, zeros}

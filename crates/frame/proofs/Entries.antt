@@ -1,18 +1,17 @@
 use mathlib.Core.Path.{_≡_, refl, sym, ap, _∙_}
-use mathlib.Core.Bool.{Bool, true, false, cond, _&&_}
+use mathlib.Core.Bool.{Bool, true, false, cond}
 use mathlib.Core.List.{List}
-use mathlib.Core.Logic.{_≢_, inl, inr}
-use Prim.Native.Nat.{ℕ, zero, suc, _+_, _*_, _^_, _<_, _≤_}
+use mathlib.Core.Logic.{inl, inr}
+use Prim.Native.Nat.{ℕ, zero, suc, _+_, _*_, _^_, _<_}
 use native.Mathlib.Omega.{arith}
-use lib.Dec.{ltb}
-use lib.IntN.{ℤ, pos, negsuc}
-use lib.ListN.{length, getD, set, replicate, getD-replicate}
+use lib.IntN.{ℤ, negsuc}
+use lib.ListN.{length, getD, set, replicate}
 use lib.Seq.{getD-set-same, getD-set-other}
 use mir.Syntax.{w32}
 use mir.Val.{SFits, toZ, ofZ}
 use Rattle.std.proofs.shelf.Signed.{toZ-ofZ}
 use Rattle.std.proofs.shelf.Lists.{getD-read}
-use Rattle.std.proofs.shelf.Tests.{lt-ltb, cases-eq, cases-bool, cond-true, cond-false}
+use Rattle.std.proofs.shelf.Tests.{cases-eq}
 use Rattle.std.specs.Options.{isSome, valueOr}
 use Rattle.std.specs.declared.option.Option.{Option}
 use Rattle.std.specs.declared.option.Option.the-variants.{Some, None}
@@ -20,7 +19,6 @@ use Rattle.frame.specs.Cells.{inSpan, mayStand, settled}
 use Rattle.head.specs.Heads.{inside, placeOf}
 use Rattle.head.proofs.Places.{place-found}
 use Rattle.frame.specs.Frames.{cellAt, entryFault, entered, unless}
-use Rattle.frame.specs.declared.FrameFault.{FrameFault}
 use Rattle.frame.specs.declared.FrameFault.the-variants as fault
 
 -- the answer of `in_span`, which was given the height by its bits

@@ -1,7 +1,7 @@
-use mathlib.Core.Path.{_≡_, _∙_, sym, ap}
+use mathlib.Core.Path.{_≡_}
 use mathlib.Core.List.{List}
 use mathlib.Core.Logic.{inl, inr}
-use Prim.Native.Nat.{ℕ, zero, suc, _+_, _-_, _*_, _^_, _/_, _%_, _<_, _≤_, max}
+use Prim.Native.Nat.{ℕ, suc, _+_, _-_, _*_, _^_, _/_, _%_, _<_, _≤_, max}
 use native.Mathlib.Omega.{arith}
 use borrow.Author.Count.{below-more}
 use lib.IntN.{ℤ, pos, natAbs}
@@ -9,9 +9,9 @@ use lib.ListN.{length, getD}
 use lib.Pow.{pow-mono}
 use lib.Count.{leadingZeros}
 use Rattle.std.proofs.shelf.Tests.{cases-lt}
-use Rattle.std.proofs.shelf.Bits.{div-add-mod', leading-length, leading-le, pow-pos}
+use Rattle.std.proofs.shelf.Bits.{div-add-mod', leading-length, pow-pos}
 use Rattle.head.proofs.Squares.{place-in, cell-in}
-use Rattle.transform.specs.Transform.{Grid, gridOf}
+use Rattle.transform.specs.Transform.{gridOf}
 use Rattle.transform.specs.Planes.{Below-planes, PlaneCount}
 use Rattle.heights.specs.Coefficients.{Top}
 

@@ -1,4 +1,4 @@
-use mathlib.Core.Path.{_≡_, refl, sym, ap, ap₂, _∙_, fun-ext}
+use mathlib.Core.Path.{_≡_, refl, sym, ap, _∙_, fun-ext}
 use mathlib.Core.Bool.{Bool, true, false, cond}
 use mathlib.Core.List.{List}
 use mathlib.Core.Logic.{_≢_, inl, inr}
@@ -15,7 +15,7 @@ use mir.Val.{toZ, ofZ, SFits}
 use Rattle.std.proofs.shelf.Signed.{toZ-ofZ}
 use Rattle.std.proofs.shelf.Tests.{lt-ltb, le-ltb, cases-lt, cases-eq, cond-true, cond-false}
 use Rattle.std.proofs.shelf.Bits.{mul-add-lt, div-mul-add, mod-mul-add}
-use Rattle.transform.specs.Transform.{Line, Grid, On, gridOf, lowOf, differenceOf, halved, inRows, inColumns, level}
+use Rattle.transform.specs.Transform.{Line, Grid, On, gridOf, lowOf, differenceOf, halved, inRows, level}
 use Rattle.transform.specs.Planes.{Below-planes}
 use Rattle.transform.proofs.Planes.{rows-small}
 use Rattle.transform.proofs.Halving.{halved-low, halved-difference, halved-rest, halved-local}

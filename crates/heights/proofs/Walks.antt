@@ -1,15 +1,14 @@
-use mathlib.Core.Path.{_≡_, _∙_, refl, sym, ap, ap₂}
-use mathlib.Core.Bool.{cond, true}
-use Prim.Native.Nat.{ℕ, zero, suc, _+_, _-_, _*_, _^_, _/_, _%_, _<_, _≤_}
+use mathlib.Core.Path.{_≡_, _∙_, refl, sym, ap}
+use mathlib.Core.Bool.{true}
+use Prim.Native.Nat.{ℕ, suc, _+_, _-_, _*_, _^_, _/_, _%_, _<_, _≤_}
 use native.Mathlib.Omega.{arith}
 use native.Mathlib.Nat.{pow-suc}
 use borrow.Author.Differences.{ints}
-use lib.IntN.{ℤ, pos, natAbs, _+ℤ_, _-ℤ_}
-use mathlib.Core.Logic.{inl, inr}
+use lib.IntN.{ℤ, pos, natAbs}
 use Rattle.std.proofs.shelf.Bits.{pow-add, shl-shr, shr-shr, shr-below}
-use Rattle.std.proofs.shelf.Tests.{lt-ltb, eq-eqb, ne-eqb, cases-bool, cond-true, cond-false}
+use Rattle.std.proofs.shelf.Tests.{lt-ltb, eq-eqb, ne-eqb, cond-true, cond-false}
 use Rattle.head.specs.Heads.{inside}
-use Rattle.transform.specs.Transform.{Grid, On, firstOf, secondOf, oneOf, unlevels, undone}
+use Rattle.transform.specs.Transform.{Grid, firstOf, secondOf, oneOf, unlevels, undone}
 use Rattle.transform.specs.Planes.{Below-planes}
 use Rattle.transform.proofs.Cells.{cell, half-abs}
 use Rattle.heights.specs.Reading.{readAt, blockOf}

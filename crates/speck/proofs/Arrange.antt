@@ -1,15 +1,15 @@
 -- The two ways to say the order of waiting parts are one.
-use mathlib.Core.Path.{_≡_, refl, sym, _∙_, ap, subst}
-use mathlib.Core.List.{List, [], _∷_, _++_, append-nil, append-assoc}
+use mathlib.Core.Path.{_≡_, refl, _∙_, ap}
+use mathlib.Core.List.{List, [], _∷_, _++_, append-assoc}
 use mathlib.Core.Bool.{Bool, true, false, cond}
 use mathlib.Core.Logic.{_⊎_, inl, inr}
 use Prim.Native.Nat.{ℕ, zero, suc, _+_, _≤_, _<_}
 use native.Mathlib.Omega.{arith}
-use lib.Dec.{leb, eqb}
+use lib.Dec.{eqb}
 use Rattle.std.proofs.shelf.Tests.{eqb-true, eq-eqb, ne-eqb, le-leb, lt-leb, cases-lt}
 use Rattle.speck.specs.declared.Part.{Part}
 use Rattle.speck.specs.declared.Part.the-variants.{Block, Rest}
-use Rattle.speck.specs.Survey.{before, insert, arranged, hasSide, isRest, ofSide, rests, tiers, Below, Arranges}
+use Rattle.speck.specs.Survey.{before, insert, arranged, ofSide, rests, tiers, Arranges}
 
 -- p stands before each, or behind each
 abbrev Fores : Part → List Part → Type 0

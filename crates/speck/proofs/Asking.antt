@@ -2,15 +2,14 @@
 use mathlib.Core.Path.{_≡_, refl, sym, _∙_, ap, subst}
 use mathlib.Core.List.{List, [], _∷_, _++_, append-assoc, append-nil}
 use mathlib.Core.Bool.{Bool}
-use Prim.Native.Nat.{ℕ, zero, suc, _+_, _≤_}
+use Prim.Native.Nat.{ℕ, zero, suc, _≤_}
 use native.Mathlib.Omega.{arith}
 use lib.ListN.{length}
 use Rattle.speck.specs.declared.Part.{Part}
-use Rattle.speck.specs.declared.Part.the-variants.{Block}
-use Rattle.speck.specs.Grid.{Grid, magnitude, outside}
+use Rattle.speck.specs.Grid.{Grid}
 use Rattle.speck.specs.Survey.{Found, survey}
 use Rattle.speck.specs.Machine.{State, owing, asking, sign, refinement, finished, ask, answer, step, Next, going, contradiction, surplus, run, start}
-use Rattle.speck.specs.Receiver.{openPlanes, Headed, Prefix}
+use Rattle.speck.specs.Receiver.{openPlanes, Prefix}
 use Rattle.speck.specs.Laws.{onward, asked, Asking-gives-survey, Asks-on, Question-is-next}
 use Rattle.speck.proofs.Steps.{Asks, Goes}
 use Rattle.speck.proofs.Trace.{Trace, trace-run, run-++, back-run, goes-on, begins, past-end, IsOn, stateAt}

@@ -1,5 +1,5 @@
 -- Without values the machine goes the same way.
-use mathlib.Core.Path.{_≡_, refl, sym, _∙_, ap}
+use mathlib.Core.Path.{_≡_, refl, _∙_, ap}
 use mathlib.Core.List.{List, [], _∷_, _++_, map}
 use mathlib.Core.Bool.{Bool, true, false}
 use Prim.Native.Nat.{ℕ, zero, suc}
@@ -7,7 +7,7 @@ use Rattle.std.proofs.shelf.Lists.{map-append}
 use Rattle.speck.specs.declared.Part.{Part}
 use Rattle.speck.specs.Grid.{Grid, View, cell, parts, view}
 use Rattle.speck.specs.Survey.{Found, arranged, refined}
-use Rattle.speck.specs.Machine.{State, answer, ask, owing, asking, sign, refinement, finished, refineOnBy, goOnBy, enterPlane, goOn, refineOn, unfolded, step, noted, Next, going}
+use Rattle.speck.specs.Machine.{State, answer, ask, owing, asking, sign, refinement, finished, refineOnBy, goOnBy, enterPlane, goOn, refineOn, unfolded, step, noted, going}
 use Rattle.speck.specs.Places.{bareCell, bare, bareNext, placeStep, Places-suffice}
 
 refine-bare : (n : ℕ) (k : List Part → List Found → State) → ((w : List Part) (f : List Found) → bare (k w f) ≡ k w (map bareCell f)) → (todo done : List Found) (noes : List Part) (new : List Found) → bare (refineOnBy k n todo done noes new) ≡ refineOnBy k n (map bareCell todo) (map bareCell done) noes (map bareCell new)

@@ -1,16 +1,15 @@
 -- Each cell is in one place: how many parts and found cells have it does not change.
-use mathlib.Core.Path.{_≡_, refl, sym, _∙_, ap, subst}
-use mathlib.Core.List.{List, [], _∷_, _++_, map}
-use mathlib.Core.Bool.{Bool, true, false, cond, _||_}
-use mathlib.Core.Logic.{_⊎_, inl, inr}
-use Prim.Native.Nat.{ℕ, zero, suc, _+_, _-_, _*_, _/_, _%_, _^_, _≤_, _<_}
-use native.Mathlib.Nat.{zero-add, add-zero}
+use mathlib.Core.Path.{_≡_, refl, sym, _∙_}
+use mathlib.Core.List.{List, [], _∷_, _++_}
+use mathlib.Core.Bool.{Bool, true, false}
+use Prim.Native.Nat.{ℕ, zero, suc, _+_, _<_}
+use native.Mathlib.Nat.{zero-add}
 use native.Mathlib.Omega.{arith}
 use Rattle.speck.specs.declared.Part.{Part}
-use Rattle.speck.specs.declared.Part.the-variants.{Block, Rest}
-use Rattle.speck.specs.Grid.{Grid, outside, View, cell, parts, view, inside, coverage, square}
-use Rattle.speck.specs.Survey.{Found, arranged, refined, digit}
-use Rattle.speck.specs.Machine.{State, owing, asking, sign, refinement, finished, refineOnBy, goOnBy, enterPlane, goOn, refineOn, unfolded, step, Next, going, contradiction, surplus, run, feed, start}
+use Rattle.speck.specs.declared.Part.the-variants.{Block}
+use Rattle.speck.specs.Grid.{View, cell, parts, view, inside, coverage, square}
+use Rattle.speck.specs.Survey.{Found, arranged, refined}
+use Rattle.speck.specs.Machine.{State, owing, asking, sign, refinement, finished, refineOnBy, goOnBy, enterPlane, goOn, unfolded, step, Next, going, contradiction, surplus, run, feed, start}
 use Rattle.speck.proofs.Lists.{coverage-++, coverage-arrange}
 use Rattle.speck.proofs.Geometry.{Made, made, whole}
 

@@ -1,25 +1,24 @@
 -- Every state that can be reached allows a grid.
-use mathlib.Core.Path.{_≡_, refl, sym, _∙_, ap, subst}
+use mathlib.Core.Path.{_≡_, refl, _∙_, ap, subst}
 use mathlib.Core.List.{List, [], _∷_, _++_}
 use mathlib.Core.Bool.{Bool, true, false, cond, _&&_}
-use mathlib.Core.Logic.{_⊎_, inl, inr}
-use Prim.Native.Nat.{ℕ, zero, suc, _+_, _-_, _*_, _/_, _%_, _^_, _≤_, _<_}
+use Prim.Native.Nat.{ℕ, zero, suc, _+_, _*_, _^_, _≤_, _<_}
 use native.Mathlib.Omega.{arith}
-use lib.Dec.{leb, ltb, eqb}
-use lib.IntN.{ℤ, pos, negsuc, _-ℤ_}
-use lib.Pow.{pow-pos, pow-mono}
-use Rattle.std.proofs.shelf.Tests.{cases-lt, false≢true, and-parts, and-from, eqb-true, eq-eqb}
+use lib.Dec.{eqb}
+use lib.IntN.{ℤ, pos}
+use lib.Pow.{pow-pos}
+use Rattle.std.proofs.shelf.Tests.{and-parts, and-from, eqb-true, eq-eqb}
 use Rattle.speck.specs.declared.Part.{Part}
-use Rattle.speck.specs.declared.Part.the-variants.{Block, Rest}
+use Rattle.speck.specs.declared.Part.the-variants.{Block}
 use Rattle.speck.specs.Survey.{Found}
-use Rattle.speck.specs.Grid.{Grid, magnitude, isNegative, signed, upper, outside, View, cell, parts, view, significant, inside, coverage, square}
+use Rattle.speck.specs.Grid.{Grid, magnitude, isNegative, upper, parts, view, inside, coverage}
 use Rattle.speck.specs.Machine.{State, owing, asking, sign, refinement, finished}
-use Rattle.speck.specs.Receiver.{value, isAt, lookup, known, openPlanes}
+use Rattle.speck.specs.Receiver.{value, isAt, lookup, known}
 use Rattle.speck.proofs.Lists.{coverage-++}
-use Rattle.speck.proofs.Possible.{Insignificant, Significant, Fits, Known, Base, Turn, Over, Possible}
-use Rattle.speck.proofs.Geometry.{Made, made, one-in, one-is, part-ind, Each}
+use Rattle.speck.proofs.Possible.{Insignificant, Fits, Known, Base, Possible}
+use Rattle.speck.proofs.Geometry.{Made, made, one-in, part-ind, Each}
 use Rattle.speck.proofs.Count.{at, cnt, count, Some, Sound}
-use Rattle.speck.proofs.Upper.{upper-is, none-upper, some-upper, upper-scaled, mag-signed, neg-signed}
+use Rattle.speck.proofs.Upper.{upper-is, none-upper, upper-scaled, mag-signed, neg-signed}
 
 here-self : (e : Found) → isAt e (e .row) (e .column) ≡ true
 here-self e = and-from (eqb (e .row) (e .row)) (eqb (e .column) (e .column)) (eq-eqb (e .row) (e .row) refl) (eq-eqb (e .column) (e .column) refl)

@@ -1,31 +1,25 @@
 -- A grid that a state allows is near to what the state tells of it, at every cell.
-use mathlib.Core.Path.{_≡_, refl, sym, _∙_, ap, subst}
-use mathlib.Core.List.{List, [], _∷_, _++_, map, append-assoc, append-nil}
-use mathlib.Core.Bool.{Bool, true, false, cond, _&&_}
+use mathlib.Core.Path.{_≡_, refl, sym, _∙_, ap}
+use mathlib.Core.List.{List, [], _∷_, _++_}
+use mathlib.Core.Bool.{Bool, true, false, cond}
 use mathlib.Core.Logic.{_⊎_, inl, inr}
-use Prim.Native.Nat.{ℕ, zero, suc, _+_, _-_, _*_, _/_, _%_, _^_, _≤_, _<_}
+use Prim.Native.Nat.{ℕ, suc, _+_, _*_, _^_, _≤_, _<_}
 use native.Mathlib.Omega.{arith}
-use lib.Dec.{leb, ltb, eqb}
-use lib.IntN.{ℤ, pos, negsuc, _-ℤ_}
-use lib.Pow.{pow-pos, pow-mono}
+use lib.Dec.{eqb}
+use lib.IntN.{ℤ, pos, _-ℤ_}
+use lib.Pow.{pow-mono}
 use Rattle.std.proofs.shelf.Tests.{cases-lt, false≢true, and-parts, and-from, eqb-true, eq-eqb}
-use Rattle.std.proofs.shelf.Signed.{ints}
-use Rattle.std.proofs.shelf.Ways.{tells as tests}
 use Rattle.speck.specs.declared.Part.{Part}
-use Rattle.speck.specs.declared.Part.the-variants.{Block, Rest}
-use Rattle.speck.specs.Grid.{Grid, magnitude, isNegative, signed, upper, outside, View, cell, parts, view, significant, inside, coverage, anySignificant, significantCell, square}
-use Rattle.speck.specs.Survey.{Found, arranged, insert, before, refined, odd, bitOf, digit, survey}
-use Rattle.speck.specs.Machine.{State, owing, asking, sign, refinement, finished, ask, answer, refineOnBy, goOnBy, enterPlane, goOn, refineOn, unfolded, step, Next, going, contradiction, surplus, run, feed, start}
-use Rattle.speck.specs.Receiver.{value, isAt, lookup, known, openPlanes, InGrid, Top, Headed, Prefix, Survey-gives-grid, Whole-is-survey, Near-after-every-bit, Can-become-survey}
-use Rattle.speck.proofs.Lists.{coverage-++, coverage-arrange}
-use Rattle.speck.proofs.Possible.{Insignificant, Significant, Fits, Known, Base, Turn, Over, Possible}
-use Rattle.speck.proofs.Geometry.{Made, made, whole, square-one, square-in, square-row, square-col, one-in, one-is, part-ind, Each}
-use Rattle.speck.proofs.Tells.{anySignificant-yes}
-use Rattle.speck.proofs.Steps.{Goes}
-use Rattle.speck.proofs.Trace.{Trace, trace-run, trace-++, run-++, back-run, goes-on, begins}
-use Rattle.speck.proofs.Walk.{Whole, survey-walk, planes-walk}
-use Rattle.speck.proofs.Count.{at, cnt, cnt-++, count, Some, Sound, Sounds, run-count, start-count, run-sound, start-sound, All-at}
-use Rattle.speck.proofs.Upper.{upper-low, upper-high, upper-is, upper-none, none-upper, upper-some, some-upper, upper-scaled, signed-eta, mag-signed, neg-signed, apart, apart-zero}
+use Rattle.speck.specs.declared.Part.the-variants.{Block}
+use Rattle.speck.specs.Grid.{Grid, magnitude, signed, upper, inside, coverage}
+use Rattle.speck.specs.Survey.{Found, refined}
+use Rattle.speck.specs.Machine.{State, owing, asking, sign, refinement, finished}
+use Rattle.speck.specs.Receiver.{value, isAt, lookup, known, openPlanes}
+use Rattle.speck.proofs.Lists.{coverage-++}
+use Rattle.speck.proofs.Possible.{Insignificant, Fits, Known, Base, Turn, Over, Possible}
+use Rattle.speck.proofs.Geometry.{one-in, one-is}
+use Rattle.speck.proofs.Count.{at, cnt, count}
+use Rattle.speck.proofs.Upper.{upper-low, upper-high, upper-none, signed-eta, apart, apart-zero}
 
 -- where a found cell is
 here-yes : (e : Found) (i j : ℕ) → isAt e i j ≡ true → (e .row ≡ i) × (e .column ≡ j)

@@ -1,19 +1,14 @@
 -- A part is made of its parts: each cell of it is in just one.
-use mathlib.Core.Path.{_≡_, refl, sym, _∙_, ap, subst}
-use mathlib.Core.List.{List, [], _∷_, _++_, map}
-use mathlib.Core.Bool.{Bool, true, false, cond, _||_}
-use mathlib.Core.Logic.{_⊎_, inl, inr}
-use Prim.Native.Nat.{ℕ, zero, suc, _+_, _-_, _*_, _/_, _%_, _^_, _≤_, _<_}
+use mathlib.Core.Path.{_≡_, refl}
+use mathlib.Core.List.{List, [], _∷_}
+use Prim.Native.Nat.{ℕ, zero, suc, _+_, _^_, _≤_, _<_}
 use native.Mathlib.Omega.{arith}
-use native.Mathlib.Nat.{add-assoc, zero-add, add-zero, add-suc, suc-add}
+use native.Mathlib.Nat.{zero-add, add-zero, add-suc, suc-add}
 use native.Mathlib.Numerals.{add-one}
-use lib.Dec.{leb, ltb}
-use lib.IntN.{ℤ, pos, negsuc}
 use Rattle.std.proofs.shelf.Ways.{tells}
 use Rattle.speck.specs.declared.Part.{Part}
 use Rattle.speck.specs.declared.Part.the-variants.{Block, Rest}
-use Rattle.speck.specs.Survey.{Found}
-use Rattle.speck.specs.Grid.{Grid, magnitude, isNegative, signed, upper, outside, View, cell, parts, view, significant, inside, coverage, span, square, anySignificant, significantCell}
+use Rattle.speck.specs.Grid.{Grid, outside, View, cell, parts, view, significant, inside, coverage, span, square, anySignificant, significantCell}
 
 span-split : (a w i : ℕ) → span a (w + w) i ≡ span a w i + span (a + w) w i
 unfolding span

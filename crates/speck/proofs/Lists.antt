@@ -1,16 +1,13 @@
 -- Sums over lists of parts, and what holds of all found cells.
-use mathlib.Core.Path.{_≡_, refl, sym, _∙_, ap, subst}
-use mathlib.Core.List.{List, [], _∷_, _++_, map}
-use mathlib.Core.Bool.{Bool, true, false, cond}
-use mathlib.Core.Logic.{_⊎_, inl, inr}
-use Prim.Native.Nat.{ℕ, zero, suc, _+_, _-_, _*_, _/_, _%_, _^_, _≤_, _<_}
+use mathlib.Core.Path.{_≡_, refl, sym}
+use mathlib.Core.List.{List, [], _∷_, _++_}
+use mathlib.Core.Bool.{true, false, cond}
+use Prim.Native.Nat.{ℕ, _+_}
 use native.Mathlib.Omega.{arith}
-use native.Mathlib.Nat.{add-assoc, zero-add, add-zero}
-use lib.IntN.{ℤ, pos, negsuc}
+use native.Mathlib.Nat.{zero-add}
 use Rattle.speck.specs.declared.Part.{Part}
-use Rattle.speck.specs.declared.Part.the-variants.{Block, Rest}
-use Rattle.speck.specs.Grid.{Grid, magnitude, isNegative, signed, upper, outside, View, cell, parts, view, significant, inside, coverage}
-use Rattle.speck.specs.Survey.{Found, arranged, insert, before, refined, odd, bitOf, digit}
+use Rattle.speck.specs.Grid.{inside, coverage}
+use Rattle.speck.specs.Survey.{arranged, insert, before}
 
 pub coverage-++ : (xs ys : List Part) (i j : ℕ) → coverage (xs ++ ys) i j ≡ coverage xs i j + coverage ys i j
 coverage-++ [] ys i j = sym (zero-add (coverage ys i j))

@@ -1,17 +1,13 @@
 -- Which grids a state still allows.
-use mathlib.Core.Path.{_≡_, refl, sym, _∙_, ap, subst}
-use mathlib.Core.List.{List, [], _∷_, _++_, map}
-use mathlib.Core.Bool.{Bool, true, false, cond}
-use mathlib.Core.Logic.{_⊎_, inl, inr}
-use Prim.Native.Nat.{ℕ, zero, suc, _+_, _-_, _*_, _/_, _%_, _^_, _≤_, _<_}
+use mathlib.Core.Path.{_≡_}
+use mathlib.Core.List.{List, [], _∷_, _++_}
+use Prim.Native.Nat.{ℕ, zero, suc, _<_}
 use native.Mathlib.Omega.{arith}
-use lib.IntN.{ℤ, pos, negsuc}
 use Rattle.speck.specs.declared.Part.{Part}
-use Rattle.speck.specs.declared.Part.the-variants.{Block, Rest}
-use Rattle.speck.specs.Grid.{Grid, magnitude, isNegative, signed, upper, outside, View, cell, parts, view, significant, inside, coverage}
-use Rattle.speck.specs.Survey.{Found, arranged, insert, before, refined, odd, bitOf, digit}
-use Rattle.speck.specs.Machine.{State, owing, asking, sign, refinement, finished, ask, answer, refineOnBy, goOnBy, enterPlane, goOn, refineOn, unfolded, step, Next, going, contradiction, surplus, run, feed, start}
-use Rattle.speck.proofs.Lists.{coverage-++, coverage-arrange}
+use Rattle.speck.specs.Grid.{Grid, magnitude, isNegative, upper, coverage}
+use Rattle.speck.specs.Survey.{Found, arranged, refined}
+use Rattle.speck.specs.Machine.{State, owing, asking, sign, refinement, finished, refineOnBy, goOnBy, enterPlane}
+use Rattle.speck.proofs.Lists.{coverage-arrange}
 
 -- each cell of the parts is below 2 ^ n
 abbrev pub Insignificant : Grid → ℕ → List Part → Type 0

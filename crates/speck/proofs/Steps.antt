@@ -1,23 +1,20 @@
 -- One answer: forwards and backwards.
-use mathlib.Core.Path.{_≡_, refl, sym, _∙_, ap, subst}
-use mathlib.Core.List.{List, [], _∷_, _++_, map}
-use mathlib.Core.Bool.{Bool, true, false, cond, _||_}
+use mathlib.Core.Path.{_≡_, refl}
+use mathlib.Core.List.{List, [], _∷_, _++_}
+use mathlib.Core.Bool.{Bool, true, false}
 use mathlib.Core.Logic.{_⊎_, inl, inr}
-use Prim.Native.Nat.{ℕ, zero, suc, _+_, _-_, _*_, _/_, _%_, _^_, _≤_, _<_}
+use Prim.Native.Nat.{ℕ, suc, _+_, _*_, _/_, _≤_, _<_}
 use native.Mathlib.Omega.{arith}
-use lib.Dec.{leb, ltb}
-use lib.IntN.{ℤ, pos, negsuc}
 use Rattle.std.proofs.shelf.Tests.{cases-lt}
 use Rattle.std.proofs.shelf.Ways.{tells as tests}
 use Rattle.speck.specs.declared.Part.{Part}
-use Rattle.speck.specs.declared.Part.the-variants.{Block, Rest}
-use Rattle.speck.specs.Grid.{Grid, magnitude, isNegative, signed, upper, outside, View, cell, parts, view, significant, inside, coverage, anySignificant, significantCell}
-use Rattle.speck.specs.Survey.{Found, arranged, insert, before, refined, odd, bitOf, digit}
-use Rattle.speck.specs.Machine.{State, owing, asking, sign, refinement, finished, ask, answer, refineOnBy, goOnBy, enterPlane, goOn, refineOn, unfolded, step, Next, going, contradiction, surplus, run, feed, start}
-use Rattle.speck.proofs.Lists.{coverage-++, coverage-arrange}
-use Rattle.speck.proofs.Possible.{Insignificant, Significant, Fits, Known, Known-++, Known-left, Known-right, Base, Turn, Over, Possible, enter-in, enter-out, turnBy-in, turnBy-out, goBy-in, goBy-out}
+use Rattle.speck.specs.Grid.{Grid, magnitude, isNegative, upper, View, cell, parts, view, significant, inside, coverage}
+use Rattle.speck.specs.Survey.{Found, refined, odd, bitOf, digit}
+use Rattle.speck.specs.Machine.{State, owing, asking, sign, refinement, finished, ask, answer, enterPlane, goOn, unfolded, step, Next, going, contradiction, surplus}
+use Rattle.speck.proofs.Lists.{coverage-++}
+use Rattle.speck.proofs.Possible.{Insignificant, Significant, Fits, Known-++, Known-left, Known-right, Base, Possible, enter-in, enter-out, turnBy-in, turnBy-out, goBy-in, goBy-out}
 use Rattle.speck.proofs.Geometry.{Made, made}
-use Rattle.speck.proofs.Tells.{Tells, tells, says-yes, says-no, split-insignificant}
+use Rattle.speck.proofs.Tells.{tells, says-yes, says-no, split-insignificant}
 
 abbrev pub Goes : Next → Grid → Type 0
 Goes (going s) g = Possible s g

@@ -1,17 +1,14 @@
 -- The answer to a question about a part says what it should.
-use mathlib.Core.Path.{_≡_, refl, sym, _∙_, ap, subst}
-use mathlib.Core.List.{List, [], _∷_, _++_, map}
-use mathlib.Core.Bool.{Bool, true, false, cond, _||_}
+use mathlib.Core.Path.{_≡_, refl, sym, _∙_, subst}
+use mathlib.Core.List.{List, [], _∷_}
+use mathlib.Core.Bool.{Bool, true, false}
 use mathlib.Core.Logic.{_⊎_, inl, inr}
-use Prim.Native.Nat.{ℕ, zero, suc, _+_, _-_, _*_, _/_, _%_, _^_, _≤_, _<_}
+use Prim.Native.Nat.{ℕ, _≤_, _<_}
 use native.Mathlib.Omega.{arith}
-use lib.Dec.{leb, ltb}
-use lib.IntN.{ℤ, pos, negsuc}
-use Rattle.std.proofs.shelf.Tests.{or-cases, or-parts, ltb-true, ltb-false, both-ways, false≢true, cases-lt}
+use Rattle.std.proofs.shelf.Tests.{or-cases, or-parts, ltb-true, ltb-false, false≢true, cases-lt}
 use Rattle.speck.specs.declared.Part.{Part}
-use Rattle.speck.specs.declared.Part.the-variants.{Block, Rest}
-use Rattle.speck.specs.Survey.{Found}
-use Rattle.speck.specs.Grid.{Grid, magnitude, isNegative, signed, upper, outside, View, cell, parts, view, significant, inside, coverage, anySignificant, significantCell}
+use Rattle.speck.specs.declared.Part.the-variants.{Block}
+use Rattle.speck.specs.Grid.{Grid, magnitude, upper, cell, parts, view, significant, inside, anySignificant}
 use Rattle.speck.proofs.Possible.{Insignificant, Significant}
 use Rattle.speck.proofs.Geometry.{Made, made, Each, part-ind, LoudBy, significant-by, significant-cell}
 

@@ -1,25 +1,24 @@
 -- What the machine and the survey are to each other.
 use mathlib.Core.Path.{_≡_, refl, sym, _∙_, ap, subst}
 use mathlib.Core.List.{List, [], _∷_, _++_, append-nil}
-use mathlib.Core.Bool.{Bool, true, false}
-use mathlib.Core.Logic.{_⊎_, inl, inr}
-use Prim.Native.Nat.{ℕ, zero, suc, _+_, _-_, _*_, _/_, _%_, _^_, _≤_, _<_}
+use mathlib.Core.Bool.{Bool}
+use Prim.Native.Nat.{ℕ, zero, suc, _+_, _^_, _<_}
 use native.Mathlib.Omega.{arith}
-use lib.IntN.{ℤ, pos, negsuc, _-ℤ_}
+use lib.IntN.{ℤ, _-ℤ_}
 use Rattle.std.proofs.shelf.Signed.{ints}
 use Rattle.speck.specs.declared.Part.{Part}
-use Rattle.speck.specs.declared.Part.the-variants.{Block, Rest}
-use Rattle.speck.specs.Grid.{Grid, magnitude, upper, outside, inside, coverage, square}
-use Rattle.speck.specs.Survey.{Found, survey, planes}
+use Rattle.speck.specs.declared.Part.the-variants.{Block}
+use Rattle.speck.specs.Grid.{Grid, magnitude, outside, square}
+use Rattle.speck.specs.Survey.{Found, survey}
 use Rattle.speck.specs.Machine.{State, owing, asking, sign, refinement, finished, Next, going, contradiction, surplus, run, start}
-use Rattle.speck.specs.Receiver.{known, openPlanes, InGrid, Top, Headed, Prefix, Survey-gives-grid, Whole-is-survey, Near-after-every-bit, Can-become-survey}
+use Rattle.speck.specs.Receiver.{known, openPlanes, InGrid, Headed, Prefix, Survey-gives-grid, Whole-is-survey, Near-after-every-bit, Can-become-survey}
 use Rattle.speck.proofs.Lists.{coverage-++}
-use Rattle.speck.proofs.Possible.{Insignificant, Significant, Base, Over, Possible}
+use Rattle.speck.proofs.Possible.{Possible}
 use Rattle.speck.proofs.Geometry.{whole, square-one, square-in, square-row, square-col}
 use Rattle.speck.proofs.Tells.{anySignificant-yes}
 use Rattle.speck.proofs.Steps.{Goes}
 use Rattle.speck.proofs.Trace.{Trace, trace-run, run-++, back-run, goes-on, begins, IsOn}
-use Rattle.speck.proofs.Walk.{Whole, survey-walk, planes-walk}
+use Rattle.speck.proofs.Walk.{Whole, survey-walk}
 use Rattle.speck.proofs.Count.{count, Sound, Sounds, run-count, start-count, run-sound, start-sound, All-at}
 use Rattle.speck.proofs.Upper.{upper-none, none-upper, upper-some, some-upper}
 use Rattle.speck.proofs.Final.{near}

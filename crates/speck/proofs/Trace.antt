@@ -1,15 +1,14 @@
 -- Runs in which a grid gives the answers.
 use mathlib.Core.Path.{_≡_, refl, sym, _∙_, ap, subst}
-use mathlib.Core.List.{List, [], _∷_, _++_, map, append-assoc, append-nil}
-use mathlib.Core.Bool.{Bool, true, false}
+use mathlib.Core.List.{List, [], _∷_, _++_}
+use mathlib.Core.Bool.{Bool}
 use Rattle.speck.specs.declared.Part.{Part}
-use Rattle.speck.specs.declared.Part.the-variants.{Block, Rest}
 use Rattle.speck.specs.Survey.{Found}
 use Rattle.speck.specs.Grid.{Grid}
 use Rattle.speck.specs.Machine.{State, owing, asking, sign, refinement, finished, ask, answer, step, Next, going, contradiction, surplus, run, feed}
 use Rattle.speck.specs.Receiver.{Prefix}
 use Rattle.speck.proofs.Possible.{Possible}
-use Rattle.speck.proofs.Steps.{Goes, Asks, forward, backward}
+use Rattle.speck.proofs.Steps.{Goes, forward, backward}
 
 -- from t, g answers the bits, and that leads to u
 abbrev pub Trace : Grid → List Bool → Next → Next → Type 0

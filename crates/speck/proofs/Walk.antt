@@ -1,18 +1,14 @@
 -- The survey is what the questions of the machine are answered by.
 use mathlib.Core.Path.{_≡_, refl, sym, _∙_, ap, subst}
 use mathlib.Core.List.{List, [], _∷_, _++_, map, append-assoc, append-nil}
-use mathlib.Core.Bool.{Bool, true, false, cond, _||_}
-use mathlib.Core.Logic.{_⊎_, inl, inr}
-use Prim.Native.Nat.{ℕ, zero, suc, _+_, _-_, _*_, _/_, _%_, _^_, _≤_, _<_}
-use native.Mathlib.Omega.{arith}
-use lib.Dec.{leb, ltb}
-use lib.IntN.{ℤ, pos, negsuc}
-use Rattle.std.proofs.shelf.Tests.{false≢true, true≢false}
+use mathlib.Core.Bool.{Bool, true, false, cond}
+use Prim.Native.Nat.{ℕ, zero, suc}
+use Rattle.std.proofs.shelf.Tests.{false≢true}
 use Rattle.speck.specs.declared.Part.{Part}
 use Rattle.speck.specs.declared.Part.the-variants.{Block, Rest}
-use Rattle.speck.specs.Grid.{Grid, magnitude, isNegative, signed, upper, outside, View, cell, parts, view, significant, inside, coverage, anySignificant, significantCell}
-use Rattle.speck.specs.Survey.{Found, arranged, insert, before, refined, odd, bitOf, digit, Outcome, nothing, andThen, saidNo, foundCell, opened, askPart, askAll, planes, survey}
-use Rattle.speck.specs.Machine.{State, owing, asking, sign, refinement, finished, ask, answer, refineOnBy, goOnBy, enterPlane, goOn, refineOn, unfolded, step, Next, going, contradiction, surplus, run, feed, start, significant?}
+use Rattle.speck.specs.Grid.{Grid, outside, View, cell, parts, view, significant, anySignificant}
+use Rattle.speck.specs.Survey.{Found, arranged, insert, refined, bitOf, Outcome, andThen, saidNo, foundCell, opened, askPart, askAll, planes, survey}
+use Rattle.speck.specs.Machine.{State, owing, asking, finished, ask, answer, enterPlane, goOn, refineOn, unfolded, step, Next, going, start, significant?}
 use Rattle.speck.proofs.Trace.{Trace, trace-++}
 use Rattle.speck.proofs.Geometry.{Each, part-ind, LoudBy, significant-by}
 

@@ -16,13 +16,12 @@ use Rattle.std.proofs.shelf.Tests.{lt-ltb, le-ltb, cases-lt, cases-eq, cond-tru
 use Rattle.std.proofs.shelf.Bits.{one-shl}
 use Rattle.std.proofs.shelf.Lists.{getD-read}
 use Rattle.std.proofs.shelf.Ways.{decides-below-and, decides-eqb}
-use Rattle.transform.specs.Transform.{Grid, On, firstOf, secondOf, oneOf, joined, inRows, inColumns, unlevel, unlevels, transform, undone}
+use Rattle.transform.specs.Transform.{Grid, On, firstOf, secondOf, oneOf, joined, inColumns, unlevel, unlevels, transform, undone}
 use Rattle.std.specs.Options.{mapped}
 use Rattle.std.specs.Places.{Item}
 use Rattle.std.specs.declared.option.Option.{Option}
 use Rattle.std.specs.declared.option.Option.the-variants.{Some, None}
-use Rattle.transform.specs.Planes.{Below-planes}
-use Rattle.transform.specs.Errors.{Near, Near-on, ceilHalf, growth, driftOf, boundOf, forPlanes, Drift-is-growth, Maps-near, Heights-near, Admitted, Readings-small}
+use Rattle.transform.specs.Errors.{Near, ceilHalf, growth, driftOf, boundOf, forPlanes, Drift-is-growth, Maps-near, Heights-near, Admitted, Readings-small}
 use Rattle.transform.proofs.Halving.{half-is, joined-in, joined-rest}
 use Rattle.transform.proofs.Levels.{comes-back}
 

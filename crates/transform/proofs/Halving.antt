@@ -1,14 +1,12 @@
-use mathlib.Core.Path.{_≡_, refl, sym, ap, ap₂, _∙_}
-use mathlib.Core.Bool.{Bool, true, false, cond}
+use mathlib.Core.Path.{_≡_, sym, ap, ap₂, _∙_}
 use mathlib.Core.Logic.{inl, inr}
-use lib.Dec.{ltb, eqb}
-use Prim.Native.Nat.{ℕ, _+_, _-_, _*_, _/_, _%_, _^_, _<_, _≤_}
+use Prim.Native.Nat.{ℕ, _+_, _-_, _*_, _/_, _%_, _<_, _≤_}
 use native.Mathlib.Omega.{arith}
 use borrow.Author.Differences.{up, down, ints}
-use lib.IntN.{ℤ, pos, negsuc, _+ℤ_, _-ℤ_, natAbs}
-use lib.Signed.{shrZ, _≤ℤ_}
+use lib.IntN.{ℤ, pos, negsuc, _+ℤ_, _-ℤ_}
+use lib.Signed.{shrZ}
 use Rattle.std.proofs.shelf.Tests.{lt-ltb, le-ltb, eq-eqb, ne-eqb, cases-lt, cases-eq, cond-true, cond-false}
-use Rattle.transform.specs.Transform.{Line, floorHalf, lowOf, firstOf, secondOf, pairOf, partOf, halved, oneOf, joined}
+use Rattle.transform.specs.Transform.{Line, lowOf, firstOf, secondOf, pairOf, partOf, halved, oneOf, joined}
 
 -- twice the half is z, or one less: for omega, which reads z as `up z - down z`
 pub half-is : (z : ℤ) → (2 * up (shrZ z 2) + down z ≤ up z + 2 * down (shrZ z 2)) × (up z + 2 * down (shrZ z 2) ≤ 2 * up (shrZ z 2) + down z + 1)

@@ -4,10 +4,9 @@ use mathlib.Core.Logic.{_⊎_, inl, inr}
 use lib.Dec.{ltb}
 use Prim.Native.Nat.{ℕ, zero, suc, _+_, _*_, _/_, _^_, _<_, _≤_}
 use native.Mathlib.Omega.{arith}
-use lib.IntN.{ℤ}
 use Rattle.std.proofs.shelf.Tests.{lt-ltb, le-ltb, cases-lt, cond-true, cond-false}
-use Rattle.transform.specs.Transform.{Line, Grid, On, pairOf, partOf, oneOf, halved, joined, inRows, inColumns, level, unlevel, levels, unlevels, transform, undone, Comes-back}
-use Rattle.transform.proofs.Halving.{halved-in, halved-rest, joined-in, joined-rest, line-back, pair-below}
+use Rattle.transform.specs.Transform.{Line, Grid, On, pairOf, partOf, halved, joined, inRows, inColumns, level, unlevel, levels, unlevels, transform, undone, Comes-back}
+use Rattle.transform.proofs.Halving.{halved-in, halved-rest, line-back, pair-below}
 
 -- a line that is halved and joined, or neither
 line-back-if : (b : Bool) (h : ℕ) (f : Line) (j : ℕ) → cond b (joined h (λ k. cond b (halved h f k) (f k)) j) (cond b (halved h f j) (f j)) ≡ f j

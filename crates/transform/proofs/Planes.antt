@@ -1,14 +1,13 @@
-use mathlib.Core.Path.{_≡_}
 use mathlib.Core.Bool.{Bool, true, false, cond}
 use mathlib.Core.Logic.{inl, inr}
 use lib.Dec.{ltb}
-use Prim.Native.Nat.{ℕ, zero, suc, _+_, _-_, _*_, _/_, _^_, _<_, _≤_}
+use Prim.Native.Nat.{ℕ, zero, suc, _+_, _*_, _/_, _^_, _<_, _≤_}
 use native.Mathlib.Omega.{arith}
 use borrow.Author.Differences.{ints}
 use lib.IntN.{ℤ, _+ℤ_, _-ℤ_, natAbs}
 use Rattle.std.proofs.shelf.Tests.{lt-ltb, le-ltb, cases-lt}
 use Rattle.transform.specs.Transform.{Grid, Line, On, lowOf, pairOf, partOf, halved, inRows, level, levels, transform}
-use Rattle.transform.specs.Planes.{Span, Below-planes, PlaneCount, Fifteen-planes}
+use Rattle.transform.specs.Planes.{Span, Fifteen-planes}
 use Rattle.transform.proofs.Halving.{half-is, pair-below, halved-in, halved-rest}
 use Rattle.transform.proofs.Levels.{level-in, level-out}
 

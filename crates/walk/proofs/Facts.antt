@@ -1,16 +1,15 @@
 -- Parts and their parts, and the room for them.
-use mathlib.Core.Path.{_≡_, refl, sym, _∙_, ap, subst}
+use mathlib.Core.Path.{_≡_, refl, _∙_, ap, subst}
 use mathlib.Core.List.{List, [], _∷_, _++_}
-use Prim.Native.Nat.{ℕ, zero, suc, _+_, _-_, _*_, _^_, _≤_, _<_}
+use Prim.Native.Nat.{ℕ, zero, suc, _+_, _*_, _^_, _≤_, _<_}
 use native.Mathlib.Omega.{arith}
 use native.Mathlib.Nat.{pow-succ', mul-assoc, mul-comm}
-use lib.Pow.{pow-pos, pow-mono}
-use native.Mathlib.Numerals.{add-one}
-use lib.ListN.{length, getD, take, drop, length-append}
+use lib.Pow.{pow-mono}
+use lib.ListN.{length}
 use Rattle.speck.specs.declared.Part.{Part}
 use Rattle.speck.specs.declared.Part.the-variants.{Block, Rest}
 use Rattle.speck.specs.Survey.{Found}
-use Rattle.speck.specs.Grid.{View, cell, parts, view, outside}
+use Rattle.speck.specs.Grid.{parts, view, outside}
 use Rattle.walk.specs.Parts.{All, Within, ring, area, areas}
 use Rattle.walk.specs.Layout.{Sound}
 

@@ -1,22 +1,22 @@
 -- The first question of a plane.
 use mathlib.Core.Path.{_≡_, refl, sym, _∙_, ap, subst}
 use mathlib.Core.List.{List, [], _∷_, _++_}
-use mathlib.Core.Bool.{Bool, true, false, cond}
-use Prim.Native.Nat.{ℕ, zero, suc, _+_, _-_, _*_, _^_, _≤_, _<_}
+use mathlib.Core.Bool.{true, false, cond}
+use Prim.Native.Nat.{ℕ, zero, suc, _+_, _-_, _^_, _≤_, _<_}
 use native.Mathlib.Omega.{arith}
 use native.Mathlib.Numerals.{add-one}
 use Rattle.speck.specs.Grid.{outside}
-use Rattle.speck.specs.declared.Part.the-variants.{Block, Rest}
+use Rattle.speck.specs.declared.Part.the-variants.{Block}
 use lib.Pow.{pow-mono}
 use lib.ListN.{length, getD, take, drop}
 use Rattle.std.proofs.shelf.Lists.{take-all, drop-all, take-append-drop, nil-from-length, drop-more, length-take-le, getD-take}
 use Rattle.speck.specs.declared.Part.{Part}
 use Rattle.speck.specs.Survey.{Found}
 use Rattle.speck.specs.Survey.{insert, arranged, before}
-use Rattle.speck.specs.Machine.{State, owing, asking, sign, refinement, finished, enterPlane, goOnBy, refineOnBy, start}
+use Rattle.speck.specs.Machine.{owing, asking, refinement, finished, enterPlane, goOnBy, refineOnBy, start}
 use Rattle.walk.specs.Parts.{All, Within, area, areas}
 use Rattle.walk.specs.Layout.{Sound, blank}
-use Rattle.walk.proofs.Facts.{All-++, areas-++, outside-all, outside-within}
+use Rattle.walk.proofs.Facts.{outside-all, outside-within}
 use Rattle.walk.proofs.Tiers.{length-arrange}
 
 areas-place : (p : Part) (l : List Part) → areas (insert p l) ≡ area p + areas l

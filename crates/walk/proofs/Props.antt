@@ -5,7 +5,7 @@ use mathlib.Core.HLevel.{Unit-prop, ×-prop, ×₃-prop}
 use mathlib.Core.Logic.{∥∥₁-elim}
 use Rattle.speck.specs.Machine as machine
 use Rattle.speck.specs.Receiver.{openPlanes}
-use Prim.Native.Nat.{ℕ, suc, _-_, _≤_, _<_}
+use Prim.Native.Nat.{ℕ, suc, _≤_}
 use native.Mathlib.Nat.{ℕ-set}
 use native.Mathlib.Bridge.{le-prop}
 use Rattle.speck.specs.declared.Part.{Part}

@@ -1,15 +1,15 @@
 -- One pass over the parts, from the last to the first.
-use mathlib.Core.Path.{_≡_, refl, sym, _∙_, ap, subst}
+use mathlib.Core.Path.{_≡_, refl, sym, _∙_, ap}
 use mathlib.Core.List.{List, [], _∷_, _++_, append-assoc}
 use mathlib.Core.Bool.{Bool, true, false, cond}
 use Prim.Native.Nat.{ℕ, zero, suc, _+_, _-_, _≤_, _<_}
 use native.Mathlib.Omega.{arith}
 use native.Mathlib.Nat.{zero-add, add-zero}
-use lib.ListN.{length, getD, take, drop, length-append}
+use lib.ListN.{length, getD, drop, length-append}
 use Rattle.std.proofs.shelf.Lists.{drop-more, drop-all}
 use Rattle.speck.specs.declared.Part.{Part}
 use Rattle.speck.specs.declared.Part.the-variants.{Block, Rest}
-use Rattle.speck.specs.Survey.{insert, arranged, before, only, hasSide, isRest, ofSide, rests, tiers, Below}
+use Rattle.speck.specs.Survey.{insert, arranged, before, only, ofSide, rests, tiers, Below}
 use Rattle.walk.specs.Parts.{All, Within}
 use Rattle.speck.proofs.Arrange.{arranges}
 

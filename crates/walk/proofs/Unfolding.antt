@@ -1,7 +1,7 @@
 -- What it takes to unfold a part: its own parts go on the pile.
-use mathlib.Core.Path.{_≡_, refl, sym, _∙_, ap, subst}
-use mathlib.Core.List.{List, [], _∷_, _++_}
-use Prim.Native.Nat.{ℕ, suc, _+_, _-_, _≤_, _<_}
+use mathlib.Core.Path.{_≡_, refl, sym, _∙_, ap}
+use mathlib.Core.List.{List, _++_}
+use Prim.Native.Nat.{ℕ, _+_, _<_}
 use native.Mathlib.Omega.{arith}
 use lib.ListN.{length, take, drop, length-append}
 use Rattle.std.proofs.shelf.Lists.{take-at, drop-at}
@@ -9,11 +9,11 @@ use Rattle.speck.specs.declared.Part.{Part}
 use Rattle.walk.specs.declared.asking.Asking.the-variants.{Quarter}
 use Rattle.walk.specs.declared.lists.Lists.{Lists}
 use Rattle.walk.specs.declared.pile.Pile.{Pile}
-use Rattle.speck.specs.Grid.{view, parts, outside}
+use Rattle.speck.specs.Grid.{view}
 use Rattle.speck.specs.Machine.{owing, unfolded}
 use Rattle.walk.specs.Piles.{pileOf, roomOf}
-use Rattle.walk.specs.Parts.{All, Within, area, areas}
-use Rattle.walk.specs.Layout.{cellsOf, Sound, Sorts, Good, todoOf, noesOf, oldOf, newOf, stateIn}
+use Rattle.walk.specs.Parts.{area}
+use Rattle.walk.specs.Layout.{cellsOf, Sorts, Good, todoOf, noesOf, oldOf, newOf, stateIn}
 use Rattle.walk.proofs.Facts.{Spreads, spread-room, spread-sound}
 
 abbrev pub with : Lists → Pile → Lists

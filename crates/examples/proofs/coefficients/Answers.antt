@@ -1,7 +1,6 @@
 use borrow.Author.Needs.{needs}
-use mathlib.Core.Path.{_≡_, refl, sym, ap, _∙_}
+use mathlib.Core.Path.{_≡_, ap, _∙_}
 use Rattle.std.proofs.shelf.Results.{made-weaker}
-use Rattle.std.specs.Of.Vec.{vec-items}
 use Rattle.head.specs.Heads.{shapeFault}
 use Rattle.head.proofs.Outcomes.{answers-value}
 use Rattle.heights.specs.Coefficients.{Transformed, coefficientsOf}

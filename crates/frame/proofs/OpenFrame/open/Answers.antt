@@ -1,7 +1,6 @@
 use borrow.Author.Needs.{needs}
 use mathlib.Core.Path.{_≡_, _∙_}
-use Prim.Native.Nat.{_^_}
-use lib.ListN.{getD, replicate}
+use lib.ListN.{replicate}
 use Rattle.std.specs.Of.Vec.{vec-items}
 use Rattle.std.specs.declared.option.Option.the-variants.{None}
 use Rattle.frame.proofs.Entries.{untold-stands}

@@ -1,6 +1,5 @@
 use mathlib.Core.Path.{_≡_, _∙_, sym}
-use native.Mathlib.Omega.{arith}
-use Prim.Native.Nat.{ℕ, _^_}
+use Prim.Native.Nat.{_^_}
 use lib.ListN.{length}
 use Rattle.std.proofs.shelf.Tests.{cond-true, le-leb}
 use Rattle.std.specs.Of.Vec.{vec-items}

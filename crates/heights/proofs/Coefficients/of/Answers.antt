@@ -1,14 +1,12 @@
 use mathlib.Core.Path.{_≡_, _∙_, sym, ap}
 use mathlib.Core.List.{map}
 use native.Mathlib.Omega.{arith}
-use Prim.Native.Nat.{ℕ, _^_}
+use Prim.Native.Nat.{_^_}
 use lib.ListN.{length}
 use Rattle.std.proofs.shelf.Lists.{refilled-is}
-use Rattle.std.specs.Changed.{refilled}
 use Rattle.std.specs.Of.Vec.{vec-items}
 use Rattle.frame.specs.Cells.{settled}
-use Rattle.transform.specs.Transform.{On, gridOf, transform, undone}
-use Rattle.heights.specs.Coefficients.{mapOf}
+use Rattle.transform.specs.Transform.{transform}
 use Rattle.heights.proofs.Settling.{heights-span, heights-whole, coefficients-small, coefficients-defined, coefficients-back}
 use Rattle.heights.proofs.Coefficients.of.Needs as need
 

@@ -1,10 +1,7 @@
-use mathlib.Core.Path.{_≡_, _∙_}
+use mathlib.Core.Path.{_∙_}
 use native.Mathlib.Omega.{arith}
-use Prim.Native.Nat.{ℕ, _*_, _<_, _≤_}
-use lib.IntN.{natAbs}
 use Rattle.std.proofs.shelf.Tests.{cond-false, le-ltb}
-use Rattle.transform.specs.Transform.{halved}
-use Rattle.heights.specs.Lines.{lineAt, linesOf}
+use Rattle.heights.specs.Lines.{linesOf}
 use Rattle.heights.proofs.Strides.{lines-more}
 use Rattle.heights.proofs.lines.halve_lines.Needs as need
 

@@ -1,12 +1,11 @@
 use borrow.Author.Needs.{needs}
-use mathlib.Core.Path.{_≡_, _∙_, ap, sym}
+use mathlib.Core.Path.{_≡_}
 use native.Mathlib.Omega.{arith}
-use Prim.Native.Nat.{ℕ, _+_, _*_, _<_}
+use Prim.Native.Nat.{ℕ, _+_, _*_}
 use lib.IntN.{ℤ}
 use mir.Syntax.{w32}
 use mir.Val.{SFits}
 use Rattle.std.proofs.shelf.Signed.{toZ-ofZ}
-use Rattle.transform.specs.Transform.{lowOf, differenceOf}
 use Rattle.heights.specs.Lines.{lineAt}
 use Rattle.heights.proofs.Strides.{paired-more, paired-all}
 use Rattle.heights.proofs.lines.halve_pairs.Needs as need

@@ -1,5 +1,3 @@
-use mathlib.Core.Path.{_≡_}
-use lib.ListN.{length}
 use Rattle.heights.specs.Lines.{lineAt}
 use Rattle.heights.proofs.Strides.{Paired}
 use Rattle.heights.proofs.lines.halve_pairs.Given as given

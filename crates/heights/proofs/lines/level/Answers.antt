@@ -1,5 +1,4 @@
 use native.Mathlib.Omega.{arith}
-use mathlib.Core.Path.{_≡_}
 use Prim.Native.Nat.{_*_, _^_, _≤_}
 use lib.ListN.{length}
 use Rattle.std.proofs.shelf.Bits.{pow-pos}

@@ -1,5 +1,5 @@
 use borrow.Author.Needs.{needs}
-use mathlib.Core.Path.{_≡_, _∙_, ap}
+use mathlib.Core.Path.{_∙_, ap}
 use mathlib.Core.List.{map}
 use lib.ListN.{getD}
 use Rattle.std.proofs.shelf.Lists.{take-all}

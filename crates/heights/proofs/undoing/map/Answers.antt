@@ -5,7 +5,7 @@ use Prim.Native.Nat.{ℕ, _^_, _<_, _≤_}
 use lib.ListN.{length}
 use Rattle.std.proofs.shelf.Tests.{cond-true, cond-false, le-leb, lt-leb}
 use Rattle.head.proofs.Squares.{cell-in}
-use Rattle.transform.specs.Transform.{Grid, undone}
+use Rattle.transform.specs.Transform.{undone}
 use Rattle.heights.proofs.Drawing.{filled-more, filled-all, not-drawn}
 use Rattle.heights.proofs.undoing.map.Needs as need
 

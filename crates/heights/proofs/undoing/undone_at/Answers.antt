@@ -1,14 +1,13 @@
 use borrow.Author.Needs.{needs}
 use mathlib.Core.Path.{_≡_, _∙_, ap}
 use native.Mathlib.Omega.{arith}
-use borrow.Author.Differences.{ints}
-use Prim.Native.Nat.{ℕ, _+_, _-_, _*_, _/_, _^_, _<_, _≤_}
+use Prim.Native.Nat.{ℕ, _+_, _-_, _*_, _/_, _^_, _≤_}
 use lib.Pow.{pow-mono}
 use mir.Syntax.{w32}
 use mir.Val.{SFits}
 use Rattle.std.proofs.shelf.Signed.{toZ-ofZ}
 use Rattle.std.proofs.shelf.Bits.{shr-le}
-use Rattle.heights.proofs.Walks.{Walked, read-small, walked-none, walked-more, walked-all, square-in, half-side}
+use Rattle.heights.proofs.Walks.{read-small, walked-none, walked-more, walked-all, square-in, half-side}
 use Rattle.heights.proofs.undoing.undone_at.Needs as need
 
 pub loop-t-holds : need.loop-t-holds

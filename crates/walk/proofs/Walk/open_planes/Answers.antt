@@ -1,8 +1,4 @@
-use mathlib.Core.Path.{_≡_, refl, sym, _∙_, ap}
 use native.Mathlib.Omega.{arith}
-use native.Mathlib.Numerals.{add-one}
-use Rattle.speck.specs.Receiver.{openPlanes}
-use Rattle.walk.specs.Layout.{stateIn}
 use Rattle.walk.proofs.Props.{plane-open, sure}
 use Rattle.walk.proofs.Walk.open_planes.Needs as need
 

@@ -1,4 +1,4 @@
-use mathlib.Core.Path.{_≡_, refl, sym, _∙_, ap, subst}
+use mathlib.Core.Path.{refl, sym, _∙_, ap, subst}
 use native.Mathlib.Omega.{arith}
 use Rattle.std.proofs.shelf.Lists.{take-append-drop}
 use Rattle.std.specs.declared.result.Result.the-variants.{Ok, Err}

@@ -1,4 +1,3 @@
-use native.Mathlib.Omega.{arith}
 use Rattle.walk.proofs.Moves.{insignificant-room, insignificant-more}
 use Rattle.walk.proofs.lists.Lists.pass.Needs as need
 

@@ -1,9 +1,6 @@
-use mathlib.Core.Path.{_≡_, refl, sym, _∙_, ap}
-use mathlib.Core.List.{_++_, append-nil}
-use Prim.Native.Nat.{ℕ, _≤_}
+use mathlib.Core.Path.{_∙_, ap}
 use native.Mathlib.Omega.{arith}
 use lib.ListN.{length}
-use Rattle.speck.specs.Survey.{rests}
 use Rattle.walk.specs.Piles.{pileOf, roomOf}
 use Rattle.walk.proofs.Tiers.{whole, tier-room, tier-more, tier-all}
 use Rattle.walk.proofs.pile.Pile.gather.Needs as need

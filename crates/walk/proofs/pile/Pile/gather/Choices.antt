@@ -1,7 +1,6 @@
 use mathlib.Core.Path.{_≡_}
 use mathlib.Core.List.{_++_}
 use Prim.Native.Nat.{_≤_, _-_}
-use lib.ListN.{length, drop}
 use Rattle.speck.specs.Survey.{rests, tiers}
 use Rattle.walk.specs.Piles.{pileOf, roomOf}
 use Rattle.walk.proofs.pile.Pile.gather.Given as given

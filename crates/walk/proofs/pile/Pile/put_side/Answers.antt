@@ -1,6 +1,6 @@
 use mathlib.Core.Path.{refl, sym, _∙_}
 use native.Mathlib.Omega.{arith}
-use Rattle.speck.specs.Survey.{hasSide, isRest}
+use Rattle.speck.specs.Survey.{hasSide}
 use Rattle.walk.specs.Piles.{pileOf, roomOf}
 use Rattle.walk.proofs.Tiers.{pass-in, pass-out, pass-room, pass-none}
 use Rattle.walk.proofs.pile.Pile.put_side.Needs as need
