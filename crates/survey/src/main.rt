@@ -1,4 +1,5 @@
 // Reads a stack from standard input, and prints its transform and the map undone from it.
+#![tactic(auto)]
 mod faults;
 mod printing;
 mod reading;

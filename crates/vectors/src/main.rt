@@ -1,4 +1,5 @@
 // Sends many stacks by both grounds, for comparison with another implementation.
+#![tactic(auto)]
 mod reading;
 
 use anyhow::anyhow;
