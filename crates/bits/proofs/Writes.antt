@@ -81,11 +81,11 @@ number_before ts b a (suc n) h =
     omega (arith, number_before ts b a n (omega arith))
 
 module _ (ts : List Bool) (b : Bool) (k j : ℕ) (within : j < 8) (long : length ts ≡ 8 * k + j) where
-  byte-was : byte_at ts k ≡ number ts (8 * k) j * 2 ^ (8 - j)
-  byte-was = let e : 8 ≡ (8 - j) + j = omega arith in ap (number ts (8 * k)) e ∙ number_zeros ts (8 * k) j (8 - j) (omega arith)
+  byte_was : byte_at ts k ≡ number ts (8 * k) j * 2 ^ (8 - j)
+  byte_was = let e : 8 ≡ (8 - j) + j = omega arith in ap (number ts (8 * k)) e ∙ number_zeros ts (8 * k) j (8 - j) (omega arith)
 
-  byte-is : byte_at (ts ++ (b ∷ [])) k ≡ number ts (8 * k) j * 2 ^ (8 - j) + digit b * 2 ^ (7 - j)
-  byte-is =
+  byte_is : byte_at (ts ++ (b ∷ [])) k ≡ number ts (8 * k) j * 2 ^ (8 - j) + digit b * 2 ^ (7 - j)
+  byte_is =
       let us = ts ++ (b ∷ []) in
       let size = length_push ts b in
       let e : 8 ≡ (7 - j) + suc j = omega arith in
@@ -101,15 +101,15 @@ module _ (ts : List Bool) (b : Bool) (k j : ℕ) (within : j < 8) (long : length
       let t = ap (λ x. x * 2 ^ (7 - j)) top in
       omega (arith, z)
 
-  pub or-bit : b ≡ true → bit_or (byte_at ts k) (2 ^ (7 - j)) ≡ byte_at (ts ++ (b ∷ [])) k
-  or-bit e =
+  pub or_bit : b ≡ true → bit_or (byte_at ts k) (2 ^ (7 - j)) ≡ byte_at (ts ++ (b ∷ [])) k
+  or_bit e =
       let less : 2 ^ (7 - j) < 2 ^ (8 - j) = pow_below (7 - j) (8 - j) (omega arith) in
       let d = ap (λ x. digit x * 2 ^ (7 - j)) e in
-      let o = ap (λ x. bit_or x (2 ^ (7 - j))) byte-was ∙ or_shifted (number ts (8 * k) j) (8 - j) (2 ^ (7 - j)) less in
-      omega (arith, byte-is)
+      let o = ap (λ x. bit_or x (2 ^ (7 - j))) byte_was ∙ or_shifted (number ts (8 * k) j) (8 - j) (2 ^ (7 - j)) less in
+      omega (arith, byte_is)
 
-  pub no-bit : b ≡ false → byte_at ts k ≡ byte_at (ts ++ (b ∷ [])) k
-  no-bit e = let d = ap (λ x. digit x * 2 ^ (7 - j)) e in omega (arith, byte-is, byte-was)
+  pub no_bit : b ≡ false → byte_at ts k ≡ byte_at (ts ++ (b ∷ [])) k
+  no_bit e = let d = ap (λ x. digit x * 2 ^ (7 - j)) e in omega (arith, byte_is, byte_was)
 
 -- a byte in which no bit has come yet
 pub byte_none : (ts : List Bool) (k : ℕ) → length ts ≤ 8 * k → byte_at ts k ≡ 0
@@ -176,8 +176,8 @@ byte_with_bit ts b = by b refl
     long = omega arith
 
     by : (d : Bool) → b ≡ d → with_bit (byte_at ts (length ts / 8)) (length ts % 8) d ≡ byte_at (ts ++ b ∷ []) (length ts / 8)
-    by true e = or-bit ts b (length ts / 8) (length ts % 8) (omega arith) long e
-    by false e = no-bit ts b (length ts / 8) (length ts % 8) (omega arith) long e
+    by true e = or_bit ts b (length ts / 8) (length ts % 8) (omega arith) long e
+    by false e = no_bit ts b (length ts / 8) (length ts % 8) (omega arith) long e
 
 pub written_marked : (ts : List Bool) (b : Bool) (old new after : List ℕ) (i : ℕ) → length ts ≡ i → i < 8 * length old → Written ts old new → after ≡ marked new i b → Written (ts ++ b ∷ []) old after
 written_marked ts b old new after i e h w m =

@@ -16,18 +16,18 @@ judged : (a b t x : Bool) → a ≡ true → b ≡ true → t ≡ x → cond a (
 judged a b t x p q r = rw (p, q, r)
 
 module _ (m : ℕ) (cells : List (Option ℤ)) (i j p : ℕ) (h : ℤ) (span : in_span h ≡ true) (found : Some p ≡ place_of m i j) where
-  fault-at : (told : Bool) → is_some (get_or cells p None) ≡ told → entry_fault m cells i j h ≡ cond told (Some fault.ToldTwice) None
-  fault-at told e =
+  fault_at : (told : Bool) → is_some (get_or cells p None) ≡ told → entry_fault m cells i j h ≡ cond told (Some fault.ToldTwice) None
+  fault_at told e =
       let f = place_found m i j p found in
       let t : is_some (cell_at m cells i j) ≡ told = rw f.1 at e in
       judged (in_span h) (inside m i j) (is_some (cell_at m cells i j)) told span f.0 t
 
-  pub told-twice : is_some (get_or cells p None) ≡ true → (entry_fault m cells i j h ≡ Some fault.ToldTwice) × (cells ≡ entered m cells i j h)
-  told-twice e = let f : entry_fault m cells i j h ≡ Some fault.ToldTwice = fault-at true e in (f, sym (ap (λ u. unless u cells (set cells (i * 2 ^ m + j) (Some h))) f))
+  pub told_twice : is_some (get_or cells p None) ≡ true → (entry_fault m cells i j h ≡ Some fault.ToldTwice) × (cells ≡ entered m cells i j h)
+  told_twice e = let f : entry_fault m cells i j h ≡ Some fault.ToldTwice = fault_at true e in (f, sym (ap (λ u. unless u cells (set cells (i * 2 ^ m + j) (Some h))) f))
 
-  pub told-once : is_some (get_or cells p None) ≡ false → (entry_fault m cells i j h ≡ None) × (set cells p (Some h) ≡ entered m cells i j h)
-  told-once e =
-      let f : entry_fault m cells i j h ≡ None = fault-at false e in
+  pub told_once : is_some (get_or cells p None) ≡ false → (entry_fault m cells i j h ≡ None) × (set cells p (Some h) ≡ entered m cells i j h)
+  told_once e =
+      let f : entry_fault m cells i j h ≡ None = fault_at false e in
       (f, ap (λ x. set cells x (Some h)) (place_found m i j p found).1 ∙ sym (ap (λ u. unless u cells (set cells (i * 2 ^ m + j) (Some h))) f))
 
 -- every cell may still stand after one is told

@@ -121,10 +121,10 @@ block_tells_exactly m g n s r c p l = let q = block_exactly m g n s r c p in (λ
 
 -- a block in its place, in units of its side
 pub place_tree : (m s r c : ℕ) → InPlace m (Block s r c) → s ≤ m → InTree m s (r / 2 ^ s) (c / 2 ^ s)
-place_tree m s r c p h = record { side = h; row = unit-below m s r p.0 h; column = unit-below m s c p.1 h }
+place_tree m s r c p h = record { side = h; row = unit_below m s r p.0 h; column = unit_below m s c p.1 h }
   where
-    unit-below : (m s r : ℕ) → r + 2 ^ s ≤ 2 ^ m → s ≤ m → r / 2 ^ s < 2 ^ (m - s)
-    unit-below m s r p h =
+    unit_below : (m s r : ℕ) → r + 2 ^ s ≤ 2 ^ m → s ≤ m → r / 2 ^ s < 2 ^ (m - s)
+    unit_below m s r p h =
         let e : m ≡ (m - s) + s = omega arith in
         let w : 2 ^ m ≡ 2 ^ (m - s) * 2 ^ s = ap (λ k. 2 ^ k) e ∙ pow-add 2 (m - s) s in
         div_below r (2 ^ s) (2 ^ (m - s)) (pow_pos s) (omega (arith, pow_pos s))

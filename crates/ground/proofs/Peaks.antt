@@ -71,16 +71,16 @@ module _ (m : ℕ) (g : Grid) (s i j : ℕ) (here : InTree m s i j) (old : List 
   abbrev new : List ℕ
   new = set old (place_at m s i j) v
 
-  pub own-right : Right m g new s i j
-  own-right = get_or-set_same old (place_at m s i j) v 0 (omega (arith, place_within m s i j here)) ∙ is
+  pub own_right : Right m g new s i j
+  own_right = get_or-set_same old (place_at m s i j) v 0 (omega (arith, place_within m s i j here)) ∙ is
 
-  pub still-right : (t k l : ℕ) → InTree m t k l → Right m g old t k l → Right m g new t k l
-  still-right t k l w r = by (cases_eq (place_at m t k l) (place_at m s i j))
+  pub still_right : (t k l : ℕ) → InTree m t k l → Right m g old t k l → Right m g new t k l
+  still_right t k l w r = by (cases_eq (place_at m t k l) (place_at m s i j))
     where
       by : (place_at m t k l ≡ place_at m s i j) ⊎ (place_at m t k l ≡ place_at m s i j → ⊥) → Right m g new t k l
       by (inl e) =
           let q = one_block m t k l s i j w here e in
-          ap (λ p. get_or new p 0) e ∙ (own-right ∙ (ap (λ n. peak_of g n i j) (sym q.0) ∙ (ap (λ n. peak_of g t n j) (sym q.1) ∙ ap (peak_of g t k) (sym q.2))))
+          ap (λ p. get_or new p 0) e ∙ (own_right ∙ (ap (λ n. peak_of g n i j) (sym q.0) ∙ (ap (λ n. peak_of g t n j) (sym q.1) ∙ ap (peak_of g t k) (sym q.2))))
       by (inr e) = get_or-set_other old (place_at m s i j) (place_at m t k l) v 0 e ∙ r
 
 -- a block within another lies in the tree
@@ -123,8 +123,8 @@ filled_cell m g s i j old v w room z is =
           let e≡0 : e ≡ 0 = omega arith in
           let a' : k ≡ i = subst (λ n. upper n k ≡ i) e≡0 a in
           let b' : l ≡ j = subst (λ n. upper n l ≡ j) e≡0 b in
-          rw (t≡s, a', b') (own-right m g s i j w old v room p);
-      kept = still-right m g s i j w old v room p;
+          rw (t≡s, a', b') (own_right m g s i j w old v room p);
+      kept = still_right m g s i j w old v room p;
     }
 
 -- the four quarters of a block in turn, and then its own peak
@@ -133,33 +133,33 @@ module _ (m : ℕ) (g : Grid) (s t i j : ℕ) (old p₁ p₂ p₃ p₄ : List �
   abbrev last : List ℕ
   last = set p₄ (place_at m s i j) v
 
-  from-4 : (u k l : ℕ) → InTree m u k l → Right m g p₄ u k l → Right m g last u k l
-  from-4 = still-right m g s i j w p₄ v room is
+  from_4 : (u k l : ℕ) → InTree m u k l → Right m g p₄ u k l → Right m g last u k l
+  from_4 = still_right m g s i j w p₄ v room is
 
-  from-3 : (u k l : ℕ) → InTree m u k l → Right m g p₃ u k l → Right m g last u k l
-  from-3 u k l x r = from-4 u k l x (f₄.kept u k l x r)
+  from_3 : (u k l : ℕ) → InTree m u k l → Right m g p₃ u k l → Right m g last u k l
+  from_3 u k l x r = from_4 u k l x (f₄.kept u k l x r)
 
-  from-2 : (u k l : ℕ) → InTree m u k l → Right m g p₂ u k l → Right m g last u k l
-  from-2 u k l x r = from-3 u k l x (f₃.kept u k l x r)
+  from_2 : (u k l : ℕ) → InTree m u k l → Right m g p₂ u k l → Right m g last u k l
+  from_2 u k l x r = from_3 u k l x (f₃.kept u k l x r)
 
-  from-1 : (u k l : ℕ) → InTree m u k l → Right m g p₁ u k l → Right m g last u k l
-  from-1 u k l x r = from-2 u k l x (f₂.kept u k l x r)
+  from_1 : (u k l : ℕ) → InTree m u k l → Right m g p₁ u k l → Right m g last u k l
+  from_1 u k l x r = from_2 u k l x (f₂.kept u k l x r)
 
   halves : (n x : ℕ) → n / 2 ≡ x → (n ≡ 2 * x) ⊎ (n ≡ 2 * x + 1)
   halves n x h = grind arith
 
-  in-quarters : (u d k l : ℕ) → u + d ≡ t → InTree m u k l → (upper d k ≡ 2 * i) ⊎ (upper d k ≡ 2 * i + 1) → (upper d l ≡ 2 * j) ⊎ (upper d l ≡ 2 * j + 1) → Right m g last u k l
-  in-quarters u d k l q x (inl a) (inl b) = from-1 u k l x (f₁.inner u d k l q a b)
-  in-quarters u d k l q x (inl a) (inr b) = from-2 u k l x (f₂.inner u d k l q a b)
-  in-quarters u d k l q x (inr a) (inl b) = from-3 u k l x (f₃.inner u d k l q a b)
-  in-quarters u d k l q x (inr a) (inr b) = from-4 u k l x (f₄.inner u d k l q a b)
+  in_quarters : (u d k l : ℕ) → u + d ≡ t → InTree m u k l → (upper d k ≡ 2 * i) ⊎ (upper d k ≡ 2 * i + 1) → (upper d l ≡ 2 * j) ⊎ (upper d l ≡ 2 * j + 1) → Right m g last u k l
+  in_quarters u d k l q x (inl a) (inl b) = from_1 u k l x (f₁.inner u d k l q a b)
+  in_quarters u d k l q x (inl a) (inr b) = from_2 u k l x (f₂.inner u d k l q a b)
+  in_quarters u d k l q x (inr a) (inl b) = from_3 u k l x (f₃.inner u d k l q a b)
+  in_quarters u d k l q x (inr a) (inr b) = from_4 u k l x (f₄.inner u d k l q a b)
 
   inners : (u d k l : ℕ) → u + d ≡ s → upper d k ≡ i → upper d l ≡ j → Right m g last u k l
-  inners u zero k l q a b = let z : u ≡ s = omega arith in rw (z, a, b) (own-right m g s i j w p₄ v room is)
-  inners u (suc d) k l q a b = in-quarters u d k l (omega arith) (inner_tree m s i j u (suc d) k l w q a b) (halves (upper d k) i a) (halves (upper d l) j b)
+  inners u zero k l q a b = let z : u ≡ s = omega arith in rw (z, a, b) (own_right m g s i j w p₄ v room is)
+  inners u (suc d) k l q a b = in_quarters u d k l (omega arith) (inner_tree m s i j u (suc d) k l w q a b) (halves (upper d k) i a) (halves (upper d l) j b)
 
-  pub filled-block : Filled m g s i j old last
-  filled-block = record { inner = inners; kept = λ u k l x r. from-1 u k l x (f₁.kept u k l x r) }
+  pub filled_block : Filled m g s i j old last
+  filled_block = record { inner = inners; kept = λ u k l x r. from_1 u k l x (f₁.kept u k l x r) }
 
 -- the whole tree
 pub all_right : (m : ℕ) (g : Grid) (old new : List ℕ) → Filled m g m 0 0 old new → (t k l : ℕ) → InTree m t k l → Right m g new t k l

@@ -34,22 +34,22 @@ small_places m xs e small p = elim (cases_lt p (4 ^ m)) [
 
 -- the heights hs of a frame with these cells
 module _ (m : ℕ) (cells : List (Option ℤ)) (hs : List ℤ) (whole : length cells ≡ 4 ^ m) (stand : (p : ℕ) → may_stand (get_or cells p None) ≡ true) (settles : hs ≡ map settled cells) where
-  heights-are : On (2 ^ m) (λ i j. grid_of m hs i j ≡ heights_of m cells i j)
-  heights-are i j p q = ap (λ u. grid_of m u i j) settles ∙ settled_grid m cells whole i j p q
+  heights_are : On (2 ^ m) (λ i j. grid_of m hs i j ≡ heights_of m cells i j)
+  heights_are i j p q = ap (λ u. grid_of m u i j) settles ∙ settled_grid m cells whole i j p q
 
-  pub heights-span : On (2 ^ m) (λ i j. Span (grid_of m hs i j))
-  heights-span i j p q = rw (heights-are i j p q) (stands_span (get_or cells (i * 2 ^ m + j) None) (stand (i * 2 ^ m + j)))
+  pub heights_span : On (2 ^ m) (λ i j. Span (grid_of m hs i j))
+  heights_span i j p q = rw (heights_are i j p q) (stands_span (get_or cells (i * 2 ^ m + j) None) (stand (i * 2 ^ m + j)))
 
-  pub heights-whole : length hs ≡ 4 ^ m
-  heights-whole = ap length settles ∙ length-map cells settled ∙ whole
+  pub heights_whole : length hs ≡ 4 ^ m
+  heights_whole = ap length settles ∙ length-map cells settled ∙ whole
 
   -- and their transform zs
   module _ (k : ℕ) (zs : List ℤ) (long : length zs ≡ length hs) (turned : On (2 ^ m) (λ i j. grid_of m zs i j ≡ transform m k (grid_of m hs) i j)) where
-    pub coefficients-small : (p : ℕ) → nat_abs (get_or zs p (pos 0)) < 2 ^ 15
-    coefficients-small = small_places m zs (long ∙ heights-whole) (λ i j p q. rw (turned i j p q) (fifteen_planes m k (grid_of m hs) heights-span i j p q))
+    pub coefficients_small : (p : ℕ) → nat_abs (get_or zs p (pos 0)) < 2 ^ 15
+    coefficients_small = small_places m zs (long ∙ heights_whole) (λ i j p q. rw (turned i j p q) (fifteen_planes m k (grid_of m hs) heights_span i j p q))
 
-    pub coefficients-defined : On (2 ^ m) (λ i j. grid_of m zs i j ≡ transform m k (heights_of m cells) i j)
-    coefficients-defined i j p q = turned i j p q ∙ transform_local m k (grid_of m hs) (heights_of m cells) heights-are i j p q
+    pub coefficients_defined : On (2 ^ m) (λ i j. grid_of m zs i j ≡ transform m k (heights_of m cells) i j)
+    coefficients_defined i j p q = turned i j p q ∙ transform_local m k (grid_of m hs) (heights_of m cells) heights_are i j p q
 
-    pub coefficients-back : On (2 ^ m) (λ i j. undone m k (grid_of m zs) i j ≡ heights_of m cells i j)
-    coefficients-back i j p q = undone_local m k (grid_of m zs) (transform m k (heights_of m cells)) coefficients-defined i j p q ∙ comes_back m k (heights_of m cells) i j p q
+    pub coefficients_back : On (2 ^ m) (λ i j. undone m k (grid_of m zs) i j ≡ heights_of m cells i j)
+    coefficients_back i j p q = undone_local m k (grid_of m zs) (transform m k (heights_of m cells)) coefficients_defined i j p q ∙ comes_back m k (heights_of m cells) i j p q

@@ -68,11 +68,11 @@ lines_more xs ys g s across along h n l le apart inv line rest i j p q = elim (c
         | inr k ↦ rest (n * across + j * along) (λ t v a. absurd (let b = (apart n j n t (omega arith) q (omega arith) (omega arith) a).1 in omega arith)) ∙ now j q ∙ sym (halved_rest h (g n) j k)
       ] in
       ap (λ u. lines_of ys across along u j) e ∙ here ∙ sym (cond-true _ _ _ (lt-ltb n (n + 1) (omega arith))) ∙ ap (λ u. in_rows (n + 1) (halved h) g u j) (sym e)
-  | inr e ↦ rest (i * across + j * along) (λ t v a. absurd (e (apart i j n t p q (omega arith) (omega arith) a).0)) ∙ inv i j p q ∙ same-side e
+  | inr e ↦ rest (i * across + j * along) (λ t v a. absurd (e (apart i j n t p q (omega arith) (omega arith) a).0)) ∙ inv i j p q ∙ same_side e
 ]
   where
-    same-side : i ≢ n → in_rows n (halved h) g i j ≡ in_rows (n + 1) (halved h) g i j
-    same-side e = elim (cases_lt i n) [
+    same_side : i ≢ n → in_rows n (halved h) g i j ≡ in_rows (n + 1) (halved h) g i j
+    same_side e = elim (cases_lt i n) [
       | inl k ↦ cond-true _ _ _ (lt-ltb i n k) ∙ sym (cond-true _ _ _ (lt-ltb i (n + 1) (omega arith)))
       | inr k ↦ cond-false _ _ _ (le-ltb i n k) ∙ sym (cond-false _ _ _ (le-ltb i (n + 1) (omega arith)))
     ]

@@ -54,13 +54,13 @@ module _ (s : Shape) (P : ℕ) (g t : Grid) (agree : On (2 ^ s.exponent) (λ i j
     least = λ n b. c.least n (λ i j p q. subst (λ z. nat_abs z < 2 ^ n) (sym (agree i j p q)) (b i j p q));
   }
 
-  same-survey : PlaneCount s.exponent g P → survey (s.exponent - s.levels) s.levels P g ≡ survey (s.exponent - s.levels) s.levels P t
-  same-survey c =
-      let e : 2 ^ ((s.exponent - s.levels) + s.levels) ≡ 2 ^ s.exponent = ap (λ m. 2 ^ m) (omega-m s) in
+  same_survey : PlaneCount s.exponent g P → survey (s.exponent - s.levels) s.levels P g ≡ survey (s.exponent - s.levels) s.levels P t
+  same_survey c =
+      let e : 2 ^ ((s.exponent - s.levels) + s.levels) ≡ 2 ^ s.exponent = ap (λ m. 2 ^ m) (omega_m s) in
       of_cells (s.exponent - s.levels) s.levels P g t (shape_headed s P g c) (λ i j w. agree i j (omega (arith, w.row)) (omega (arith, w.column)))
     where
-      omega-m : (s : Shape) → (s.exponent - s.levels) + s.levels ≡ s.exponent
-      omega-m s = omega (arith, s.within)
+      omega_m : (s : Shape) → (s.exponent - s.levels) + s.levels ≡ s.exponent
+      omega_m s = omega (arith, s.within)
 
 pub sends_frame : (h : Head) (g : Grid) → PlaneCount h.shape.exponent g h.planes → SendsFrame h g
 sends_frame h g c f o =
@@ -69,7 +69,7 @@ sends_frame h g c f o =
     record {
       planes = P;
       counted = same_count f.shape P g (transform_of f) o.transformed d;
-      surveyed = ap (λ (s : Shape). survey (s.exponent - s.levels) s.levels P g) o.shape ∙ same-survey f.shape P g (transform_of f) o.transformed d;
+      surveyed = ap (λ (s : Shape). survey (s.exponent - s.levels) s.levels P g) o.shape ∙ same_survey f.shape P g (transform_of f) o.transformed d;
     }
 
 -- a frame has one survey

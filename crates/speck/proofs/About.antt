@@ -9,7 +9,7 @@ use Rattle.speck.specs.Machine.{State, owing, asking, sign, refinement, finished
 use Rattle.speck.specs.Receiver.{InGrid, Headed, Top}
 use Rattle.speck.specs.Laws.{InPlace, AboutGrid, QuestionsAboutGrid, SurveyOfCells, asked, onward, written}
 use Rattle.speck.proofs.Asking.{asking_gives}
-use Rattle.speck.proofs.Geometry.{Each, LoudBy, part-ind, significant_by, significant_one_cell}
+use Rattle.speck.proofs.Geometry.{Each, LoudBy, part_ind, significant_by, significant_one_cell}
 
 -- a place a multiple of the side, and inside the grid
 record Fits (m s r : ℕ) : Type 0 where
@@ -206,56 +206,56 @@ module _ (m P : ℕ) (g h : Grid) (agree : (i j : ℕ) → InGrid m i j → g i 
   abbrev Same : ℕ → Part → Type 0
   Same n p = Aligned m p → significant g n p ≡ significant h n p
 
-  same-any : (n : ℕ) (ps : List Part) → Each (Same n) ps → Each (Aligned m) ps → any_significant g n ps ≡ any_significant h n ps
-  same-any n [] e a = refl
-  same-any n (p ∷ ps) e a = ap (λ b. b || any_significant g n ps) (e.0 a.0) ∙ ap (λ b. significant h n p || b) (same-any n ps e.1 a.1)
+  same_any : (n : ℕ) (ps : List Part) → Each (Same n) ps → Each (Aligned m) ps → any_significant g n ps ≡ any_significant h n ps
+  same_any n [] e a = refl
+  same_any n (p ∷ ps) e a = ap (λ b. b || any_significant g n ps) (e.0 a.0) ∙ ap (λ b. significant h n p || b) (same_any n ps e.1 a.1)
 
   same_more : (n : ℕ) (p k : Part) (ks : List Part) → view p ≡ parts k ks → Each (Same n) (k ∷ ks) → Same n p
   same_more n p k ks v e a =
       let a' : Each (Aligned m) (k ∷ ks) = subst (Opens m) v (opens m p a) in
-      subst (LoudBy g n p) v (significant_by g n p) ∙ (same-any n (k ∷ ks) e a' ∙ sym (subst (LoudBy h n p) v (significant_by h n p)))
+      subst (LoudBy g n p) v (significant_by g n p) ∙ (same_any n (k ∷ ks) e a' ∙ sym (subst (LoudBy h n p) v (significant_by h n p)))
 
-  same-part : (n : ℕ) (p : Part) → Same n p
-  same-part n = part-ind (Same n) (same_cell n) (same_more n)
+  same_part : (n : ℕ) (p : Part) → Same n p
+  same_part n = part_ind (Same n) (same_cell n) (same_more n)
 
   same_answer : (s : State) → Within m P s → answer g (ask s) ≡ answer h (ask s)
-  same_answer (owing n p ps free noes old new) o = same-part n p o.todo_in.0
-  same_answer (asking n p free noes old new) o = same-part n p o.todo_in.0
+  same_answer (owing n p ps free noes old new) o = same_part n p o.todo_in.0
+  same_answer (asking n p free noes old new) o = same_part n p o.todo_in.0
   same_answer (sign n r c free noes old new) o = ap is_negative (agree r c o.0)
   same_answer (refinement n e todo done noes new) o = ap (λ z. odd (upper n (magnitude z))) (agree e.row e.column o.0)
   same_answer (finished noes old) o = refl
 
-  abbrev Asked-alike : ℕ → Type 0
-  Asked-alike n = (s : State) → Within m P s → asked g n s ≡ asked h n s
+  abbrev AskedAlike : ℕ → Type 0
+  AskedAlike n = (s : State) → Within m P s → asked g n s ≡ asked h n s
 
-  onward-same : (n : ℕ) → Asked-alike n → (t : Next) → GoesWithin m P t → onward (asked g n) t ≡ onward (asked h n) t
-  onward-same n ih (going s) o = ih s o
-  onward-same n ih contradiction o = refl
-  onward-same n ih surplus o = refl
+  onward_same : (n : ℕ) → AskedAlike n → (t : Next) → GoesWithin m P t → onward (asked g n) t ≡ onward (asked h n) t
+  onward_same n ih (going s) o = ih s o
+  onward_same n ih contradiction o = refl
+  onward_same n ih surplus o = refl
 
-  written_same : (n : ℕ) → Asked-alike n → (s : State) → Within m P s → written g (asked g n) s ≡ written h (asked h n) s
+  written_same : (n : ℕ) → AskedAlike n → (s : State) → Within m P s → written g (asked g n) s ≡ written h (asked h n) s
   written_same n ih s o =
-      ap (λ l. answer g (ask s) ∷ l) (onward-same n ih (step s (answer g (ask s))) (steps m P s (answer g (ask s)) o))
+      ap (λ l. answer g (ask s) ∷ l) (onward_same n ih (step s (answer g (ask s))) (steps m P s (answer g (ask s)) o))
       ∙ ap (λ b. b ∷ onward (asked h n) (step s b)) (same_answer s o)
 
-  asked-same : (n : ℕ) → Asked-alike n
-  asked-same zero s o = refl
-  asked-same (suc n) (owing a p ps free noes old new) o = written_same n (asked-same n) (owing a p ps free noes old new) o
-  asked-same (suc n) (asking a p free noes old new) o = written_same n (asked-same n) (asking a p free noes old new) o
-  asked-same (suc n) (sign a r c free noes old new) o = written_same n (asked-same n) (sign a r c free noes old new) o
-  asked-same (suc n) (refinement a e todo done noes new) o = written_same n (asked-same n) (refinement a e todo done noes new) o
-  asked-same (suc n) (finished noes old) o = refl
+  asked_same : (n : ℕ) → AskedAlike n
+  asked_same zero s o = refl
+  asked_same (suc n) (owing a p ps free noes old new) o = written_same n (asked_same n) (owing a p ps free noes old new) o
+  asked_same (suc n) (asking a p free noes old new) o = written_same n (asked_same n) (asking a p free noes old new) o
+  asked_same (suc n) (sign a r c free noes old new) o = written_same n (asked_same n) (sign a r c free noes old new) o
+  asked_same (suc n) (refinement a e todo done noes new) o = written_same n (asked_same n) (refinement a e todo done noes new) o
+  asked_same (suc n) (finished noes old) o = refl
 
-  same-top : (Q : ℕ) → Top m Q g → Top m Q h
-  same-top zero t = tt
-  same-top (suc n) t = (t.0, t.1, t.2, subst (λ z. 2 ^ n ≤ magnitude z) (agree t.0 t.1 t.2) t.3)
+  same_top : (Q : ℕ) → Top m Q g → Top m Q h
+  same_top zero t = tt
+  same_top (suc n) t = (t.0, t.1, t.2, subst (λ z. 2 ^ n ≤ magnitude z) (agree t.0 t.1 t.2) t.3)
 
   pub same_head : (Q : ℕ) → Headed m Q g → Headed m Q h
-  same_head Q d = record { below = λ i j c. subst (λ z. magnitude z < 2 ^ Q) (agree i j c) (d.below i j c); top = same-top Q d.top }
+  same_head Q d = record { below = λ i j c. subst (λ z. magnitude z < 2 ^ Q) (agree i j c) (d.below i j c); top = same_top Q d.top }
 
 pub of_cells : SurveyOfCells
 of_cells x k P g h d agree =
     let n = length (survey x k P g) + length (survey x k P h) in
     let a = (asking_gives x k P g d n).2 (omega arith) in
     let b = (asking_gives x k P h (same_head (x + k) P g h agree P d) n).2 (omega arith) in
-    sym a ∙ (asked-same (x + k) P g h agree n (start x k P) (starts x k P) ∙ b)
+    sym a ∙ (asked_same (x + k) P g h agree n (start x k P) (starts x k P) ∙ b)

@@ -43,22 +43,22 @@ Sound (refinement n e todo done noes new) = Some (e ∷ todo) × Some done × So
 Sound (finished noes old) = Some old
 
 module _ (i j : ℕ) where
-  turnBy-count : (n : ℕ) (k : List Part → List Found → State) → ((w : List Part) (f : List Found) → count (k w f) i j ≡ coverage w i j + cnt f i j) → (todo done : List Found) (noes : List Part) (new : List Found) → count (refine_on_by k n todo done noes new) i j ≡ cnt todo i j + (cnt done i j + (coverage noes i j + cnt new i j))
-  turnBy-count n k H [] done noes new = omega (arith, H noes (done ++ new), cnt_append done new i j)
-  turnBy-count n k H (e ∷ todo) done noes new = refl
+  turn_by_count : (n : ℕ) (k : List Part → List Found → State) → ((w : List Part) (f : List Found) → count (k w f) i j ≡ coverage w i j + cnt f i j) → (todo done : List Found) (noes : List Part) (new : List Found) → count (refine_on_by k n todo done noes new) i j ≡ cnt todo i j + (cnt done i j + (coverage noes i j + cnt new i j))
+  turn_by_count n k H [] done noes new = omega (arith, H noes (done ++ new), cnt_append done new i j)
+  turn_by_count n k H (e ∷ todo) done noes new = refl
 
-  goBy-count : (n : ℕ) (k : List Part → List Found → State) → ((w : List Part) (f : List Found) → count (k w f) i j ≡ coverage w i j + cnt f i j) → (free noes : List Part) (old new : List Found) → count (go_on_by k n free noes old new) i j ≡ coverage free i j + (coverage noes i j + (cnt old i j + cnt new i j))
-  goBy-count n k H [] noes old new = omega (arith, turnBy-count n k H old [] noes new)
-  goBy-count n k H (p ∷ free) noes old new = refl
+  go_by_count : (n : ℕ) (k : List Part → List Found → State) → ((w : List Part) (f : List Found) → count (k w f) i j ≡ coverage w i j + cnt f i j) → (free noes : List Part) (old new : List Found) → count (go_on_by k n free noes old new) i j ≡ coverage free i j + (coverage noes i j + (cnt old i j + cnt new i j))
+  go_by_count n k H [] noes old new = omega (arith, turn_by_count n k H old [] noes new)
+  go_by_count n k H (p ∷ free) noes old new = refl
 
-  enter-count : (n : ℕ) (w : List Part) (f : List Found) → count (enter_plane n w f) i j ≡ coverage w i j + cnt f i j
+  enter_count : (n : ℕ) (w : List Part) (f : List Found) → count (enter_plane n w f) i j ≡ coverage w i j + cnt f i j
   unfolding enter_plane
-  enter-count zero w f = refl
-  enter-count (suc n) w f = omega (arith, goBy-count n (enter_plane n) (enter-count n) (arranged w) [] f [], coverage_arrange w i j)
+  enter_count zero w f = refl
+  enter_count (suc n) w f = omega (arith, go_by_count n (enter_plane n) (enter_count n) (arranged w) [] f [], coverage_arrange w i j)
 
-  yes-count : (n : ℕ) (p : Part) (v : View) → Made p v → (free noes : List Part) (old new : List Found) → count (unfolded n v free noes old new) i j ≡ (inside p i j + coverage free i j) + (coverage noes i j + (cnt old i j + cnt new i j))
-  yes-count n p (cell r c) m free noes old new = omega (arith, m.2 i j)
-  yes-count n p (parts k ks) m free noes old new = omega (arith, m i j)
+  yes_count : (n : ℕ) (p : Part) (v : View) → Made p v → (free noes : List Part) (old new : List Found) → count (unfolded n v free noes old new) i j ≡ (inside p i j + coverage free i j) + (coverage noes i j + (cnt old i j + cnt new i j))
+  yes_count n p (cell r c) m free noes old new = omega (arith, m.2 i j)
+  yes_count n p (parts k ks) m free noes old new = omega (arith, m i j)
 
   abbrev pub Keeps : State → Next → Type 0
   Keeps s (going t) = count t i j ≡ count s i j
@@ -66,39 +66,39 @@ module _ (i j : ℕ) where
   Keeps s surplus = Unit {0}
 
   step_count : (s : State) (b : Bool) → Keeps s (step s b)
-  step_count (owing n p ps free noes old new) true = omega (arith, yes-count n p (view p) (made p) (ps ++ free) noes old new, coverage_append ps free i j)
+  step_count (owing n p ps free noes old new) true = omega (arith, yes_count n p (view p) (made p) (ps ++ free) noes old new, coverage_append ps free i j)
   step_count (owing n p [] free noes old new) false = tt
   step_count (owing n p (p₁ ∷ ps) free noes old new) false = omega (arith, coverage_append noes (p ∷ []) i j)
-  step_count (asking n p free noes old new) true = yes-count n p (view p) (made p) free noes old new
-  step_count (asking n p free noes old new) false = omega (arith, coverage_append noes (p ∷ []) i j, goBy-count n (enter_plane n) (enter-count n) free (noes ++ p ∷ []) old new)
+  step_count (asking n p free noes old new) true = yes_count n p (view p) (made p) free noes old new
+  step_count (asking n p free noes old new) false = omega (arith, coverage_append noes (p ∷ []) i j, go_by_count n (enter_plane n) (enter_count n) free (noes ++ p ∷ []) old new)
   step_count (sign n r c free noes old new) b =
       let e : Found = record { row = r; column = c; negative = b; leading = 1 } in
-      omega (arith, cnt_append new (e ∷ []) i j, goBy-count n (enter_plane n) (enter-count n) free noes old (new ++ e ∷ []))
-  step_count (refinement n e todo done noes new) b = omega (arith, cnt_append done (refined e b ∷ []) i j, turnBy-count n (enter_plane n) (enter-count n) todo (done ++ refined e b ∷ []) noes new)
+      omega (arith, cnt_append new (e ∷ []) i j, go_by_count n (enter_plane n) (enter_count n) free noes old (new ++ e ∷ []))
+  step_count (refinement n e todo done noes new) b = omega (arith, cnt_append done (refined e b ∷ []) i j, turn_by_count n (enter_plane n) (enter_count n) todo (done ++ refined e b ∷ []) noes new)
   step_count (finished noes old) b = tt
 
-  abbrev pub All-at : ℕ → Next → Type 0
-  All-at c (going t) = count t i j ≡ c
-  All-at c contradiction = Unit {0}
-  All-at c surplus = Unit {0}
+  abbrev pub AllAt : ℕ → Next → Type 0
+  AllAt c (going t) = count t i j ≡ c
+  AllAt c contradiction = Unit {0}
+  AllAt c surplus = Unit {0}
 
-  feed-count : (c : ℕ) (t : Next) (b : Bool) → All-at c t → All-at c (feed t b)
-  feed-count c (going s) b h = go_on (step s b) (step_count s b)
+  feed_count : (c : ℕ) (t : Next) (b : Bool) → AllAt c t → AllAt c (feed t b)
+  feed_count c (going s) b h = go_on (step s b) (step_count s b)
     where
-      go_on : (u : Next) → Keeps s u → All-at c u
+      go_on : (u : Next) → Keeps s u → AllAt c u
       go_on (going t) k = k ∙ h
       go_on contradiction k = tt
       go_on surplus k = tt
-  feed-count c contradiction b h = tt
-  feed-count c surplus b h = tt
+  feed_count c contradiction b h = tt
+  feed_count c surplus b h = tt
 
-  pub run-count : (bits : List Bool) (c : ℕ) (t : Next) → All-at c t → All-at c (run t bits)
-  run-count [] c t h = h
-  run-count (b ∷ bs) c t h = run-count bs c (feed t b) (feed-count c t b h)
+  pub run_count : (bits : List Bool) (c : ℕ) (t : Next) → AllAt c t → AllAt c (run t bits)
+  run_count [] c t h = h
+  run_count (b ∷ bs) c t h = run_count bs c (feed t b) (feed_count c t b h)
 
-  pub start-count : (x k P : ℕ) → count (start x k P) i j ≡ square (x + k) 0 0 i j
-  start-count x k zero = omega (arith, whole x k i j)
-  start-count x k (suc n) = omega (arith, whole x k i j)
+  pub start_count : (x k P : ℕ) → count (start x k P) i j ≡ square (x + k) 0 0 i j
+  start_count x k zero = omega (arith, whole x k i j)
+  start_count x k (suc n) = omega (arith, whole x k i j)
 
 -- the same for what a found cell has
 turn_by_sound : (n : ℕ) (k : List Part → List Found → State) → ((w : List Part) (f : List Found) → Some f → Sound (k w f)) → (todo done : List Found) (noes : List Part) (new : List Found) → Some todo → Some done → Some new → Sound (refine_on_by k n todo done noes new)

@@ -9,7 +9,7 @@ use Rattle.speck.specs.Machine.{State, owing, asking, sign, refinement, finished
 use Rattle.speck.specs.Receiver.{value, is_at, lookup, known}
 use Rattle.speck.proofs.Lists.{coverage_append}
 use Rattle.speck.proofs.Possible.{Insignificant, Fits, Known, Base, Possible}
-use Rattle.speck.proofs.Geometry.{Made, made, one_in, part-ind, Each}
+use Rattle.speck.proofs.Geometry.{Made, made, one_in, part_ind, Each}
 use Rattle.speck.proofs.Count.{at, cnt, count, Some, Sound}
 use Rattle.speck.proofs.Upper.{upper_is, none_upper, upper_scaled, mag_signed, neg_signed}
 
@@ -87,7 +87,7 @@ pub record Has (p : Part) : Type 0 where
   pub there : 0 < inside p row column
 
 pub has : (p : Part) → Has p
-has = part-ind Has one more
+has = part_ind Has one more
   where
     one : (r c : ℕ) → Has (Block 0 r c)
     one r c = record { row = r; column = c; there = omega (arith, one_in r c) }

@@ -63,12 +63,12 @@ near_base g n asks noes old new b i j more m e =
     let P : ℤ → Type 0 = λ v. magnitude (v -ℤ g i j) < 2 ^ suc n in
     seek_cases g (suc n) old b.known _ i j P (close g (suc n) (suc n) (omega arith) i j) (λ o.
     seek_cases g n new b.fresh _ i j P (close g n (suc n) (omega arith) i j) (λ w.
-    at-no o w (cases_lt 0 (coverage noes i j)) (cases_lt 0 more)))
+    at_no o w (cases_lt 0 (coverage noes i j)) (cases_lt 0 more)))
   where
-    at-no : cnt old i j ≡ 0 → cnt new i j ≡ 0 → (0 < coverage noes i j) ⊎ (coverage noes i j ≤ 0) → (0 < more) ⊎ (more ≤ 0) → magnitude (pos 0 -ℤ g i j) < 2 ^ suc n
-    at-no o w (inl x) y = from g n (suc n) (omega arith) noes b.calm i j x
-    at-no o w (inr x) (inl y) = zero_close g (suc n) (suc n) (omega arith) i j (m y)
-    at-no o w (inr x) (inr y) = from g (suc n) (suc n) (omega arith) asks b.waits i j (omega arith)
+    at_no : cnt old i j ≡ 0 → cnt new i j ≡ 0 → (0 < coverage noes i j) ⊎ (coverage noes i j ≤ 0) → (0 < more) ⊎ (more ≤ 0) → magnitude (pos 0 -ℤ g i j) < 2 ^ suc n
+    at_no o w (inl x) y = from g n (suc n) (omega arith) noes b.calm i j x
+    at_no o w (inr x) (inl y) = zero_close g (suc n) (suc n) (omega arith) i j (m y)
+    at_no o w (inr x) (inr y) = from g (suc n) (suc n) (omega arith) asks b.waits i j (omega arith)
 
 near_turn : (g : Grid) (n : ℕ) (todo done : List Found) (noes : List Part) (new : List Found) → Turn g n todo done noes new → (i j : ℕ) → cnt todo i j + (cnt done i j + (coverage noes i j + cnt new i j)) ≡ 1 → magnitude (lookup (suc n) todo (lookup n done (lookup n new (pos 0) i j) i j) i j -ℤ g i j) < 2 ^ suc n
 near_turn g n todo done noes new t i j e =

@@ -63,17 +63,17 @@ Each P (p ∷ ps) = P p × Each P ps
 
 -- what holds of a single cell, and of a set whose parts it holds of, holds of every part
 module _ (P : Part → Type 0) (one : (r c : ℕ) → P (Block 0 r c)) (more : (p : Part) (k : Part) (ks : List Part) → view p ≡ parts k ks → Each P (k ∷ ks) → P p) where
-  pub block-ind : (s r c : ℕ) → P (Block s r c)
-  block-ind zero r c = one r c
-  block-ind (suc s) r c = more (Block (suc s) r c) _ _ refl (block-ind s r c, (block-ind s r (c + 2 ^ s), (block-ind s (r + 2 ^ s) c, (block-ind s (r + 2 ^ s) (c + 2 ^ s), tt))))
+  pub block_ind : (s r c : ℕ) → P (Block s r c)
+  block_ind zero r c = one r c
+  block_ind (suc s) r c = more (Block (suc s) r c) _ _ refl (block_ind s r c, (block_ind s r (c + 2 ^ s), (block_ind s (r + 2 ^ s) c, (block_ind s (r + 2 ^ s) (c + 2 ^ s), tt))))
 
-  pub rest-ind : (d x : ℕ) → P (Rest d x)
-  rest-ind zero x = more (Rest zero x) _ _ refl (block-ind x 0 (2 ^ x), (block-ind x (2 ^ x) 0, (block-ind x (2 ^ x) (2 ^ x), tt)))
-  rest-ind (suc d) x = more (Rest (suc d) x) _ _ refl (block-ind x 0 (2 ^ x), (block-ind x (2 ^ x) 0, (block-ind x (2 ^ x) (2 ^ x), (rest-ind d (suc x), tt))))
+  pub rest_ind : (d x : ℕ) → P (Rest d x)
+  rest_ind zero x = more (Rest zero x) _ _ refl (block_ind x 0 (2 ^ x), (block_ind x (2 ^ x) 0, (block_ind x (2 ^ x) (2 ^ x), tt)))
+  rest_ind (suc d) x = more (Rest (suc d) x) _ _ refl (block_ind x 0 (2 ^ x), (block_ind x (2 ^ x) 0, (block_ind x (2 ^ x) (2 ^ x), (rest_ind d (suc x), tt))))
 
-  pub part-ind : (p : Part) → P p
-  part-ind (Block s r c) = block-ind s r c
-  part-ind (Rest d x) = rest-ind d x
+  pub part_ind : (p : Part) → P p
+  part_ind (Block s r c) = block_ind s r c
+  part_ind (Rest d x) = rest_ind d x
 
 -- what a test answers of a part, by its view
 pub significant_one_cell : (g : Grid) (n r c : ℕ) → significant g n (Block 0 r c) ≡ significant_cell n (g r c)

@@ -7,7 +7,7 @@ use Rattle.speck.specs.Grid.{Grid, outside, View, cell, parts, view, significant
 use Rattle.speck.specs.Survey.{Found, arranged, insert, before, refined, bit_of, Outcome, and_then, said_no, found_cell, opened, ask_part, ask_all, planes, survey}
 use Rattle.speck.specs.Laws.{SurveyLength}
 use Rattle.speck.proofs.Walk.{AskBy, ask_by}
-use Rattle.speck.proofs.Geometry.{Each, part-ind}
+use Rattle.speck.proofs.Geometry.{Each, part_ind}
 
 -- the nodes of a block's quadtree, and of the tree of a Rest
 abbrev pub block_nodes : ℕ → ℕ
@@ -102,35 +102,35 @@ module _ (g : Grid) (n : ℕ) where
   Few : Part → Type 0
   Few p = Bounded (ask_part g n p) (nodes p) (area p)
 
-  all-few : (ps : List Part) → Each Few ps → Bounded (ask_all g n ps) (sum_of nodes ps) (sum_of area ps)
+  all_few : (ps : List Part) → Each Few ps → Bounded (ask_all g n ps) (sum_of nodes ps) (sum_of area ps)
   unfolding Few
-  all-few [] h = record { bits_few = omega arith; nodes_left = omega arith; cells_left = omega arith }
-  all-few (p ∷ ps) h = both_bounded (ask_part g n p) (ask_all g n ps) (nodes p) (sum_of nodes ps) (area p) (sum_of area ps) h.0 (all-few ps h.1)
+  all_few [] h = record { bits_few = omega arith; nodes_left = omega arith; cells_left = omega arith }
+  all_few (p ∷ ps) h = both_bounded (ask_part g n p) (ask_all g n ps) (nodes p) (sum_of nodes ps) (area p) (sum_of area ps) h.0 (all_few ps h.1)
 
-  few-one : (r c : ℕ) → Few (Block 0 r c)
+  few_one : (r c : ℕ) → Few (Block 0 r c)
   unfolding Few
-  few-one r c = rw (ask_by g n (Block 0 r c)) (by (significant g n (Block 0 r c)))
+  few_one r c = rw (ask_by g n (Block 0 r c)) (by (significant g n (Block 0 r c)))
     where
       by : (b : Bool) → Bounded (cond b (found_cell g r c) (said_no (Block 0 r c))) 1 1
       by true = found_bounded g r c
       by false = no_bounded (Block 0 r c)
 
-  few-more : (p k : Part) (ks : List Part) → view p ≡ parts k ks → Each Few (k ∷ ks) → Few p
+  few_more : (p k : Part) (ks : List Part) → view p ≡ parts k ks → Each Few (k ∷ ks) → Few p
   unfolding Few
-  few-more p k ks e h =
+  few_more p k ks e h =
       let a : ask_part g n p ≡ cond (significant g n p) (opened (ask_all g n (k ∷ ks))) (said_no p) = subst (AskBy g n p) e (ask_by g n p) in
-      rw a (by (significant g n p) (all-few (k ∷ ks) h))
+      rw a (by (significant g n p) (all_few (k ∷ ks) h))
     where
       by : (b : Bool) → Bounded (ask_all g n (k ∷ ks)) (sum_of nodes (k ∷ ks)) (sum_of area (k ∷ ks)) → Bounded (cond b (opened (ask_all g n (k ∷ ks))) (said_no p)) (nodes p) (area p)
       by true y = rw ((nodes_by p k ks e).0, (nodes_by p k ks e).1) (opened_bounded (ask_all g n (k ∷ ks)) (sum_of nodes (k ∷ ks)) (sum_of area (k ∷ ks)) y)
       by false y = no_bounded p
 
-  few-each : (ps : List Part) → Each Few ps
-  few-each [] = tt
-  few-each (p ∷ ps) = (part-ind Few few-one few-more p, few-each ps)
+  few_each : (ps : List Part) → Each Few ps
+  few_each [] = tt
+  few_each (p ∷ ps) = (part_ind Few few_one few_more p, few_each ps)
 
-  plane-few : (w : List Part) → Bounded (ask_all g n (arranged w)) (sum_of nodes w) (sum_of area w)
-  plane-few w = rw (sum_arrange nodes w, sum_arrange area w) at (all-few (arranged w) (few-each (arranged w)))
+  plane_few : (w : List Part) → Bounded (ask_all g n (arranged w)) (sum_of nodes w) (sum_of area w)
+  plane_few w = rw (sum_arrange nodes w, sum_arrange area w) at (all_few (arranged w) (few_each (arranged w)))
 
 -- the numbers of one plane
 count_plane : (B F p f w f' nN N A : ℕ) → B ≤ w + F → w + f ≤ N → f' ≡ f + F → p + f' ≤ nN + A → (B + (f + p)) + f ≤ (nN + N) + A
@@ -140,7 +140,7 @@ planes_length : (g : Grid) (n : ℕ) (w : List Part) (f : List Found) (N A : ℕ
 planes_length g zero w f N A h k = rw (zero-mul N) (omega arith)
 planes_length g (suc n) w f N A h k =
     let a : Outcome = ask_all g n (arranged w) in
-    let b : Bounded a (sum_of nodes w) (sum_of area w) = plane-few g n w in
+    let b : Bounded a (sum_of nodes w) (sum_of area w) = plane_few g n w in
     let f' : List Found = map (λ e. refined e (bit_of g n e)) f ++ a.finds in
     let r : List Bool = planes g n a.waits f' in
     let l : length f' ≡ length f + length a.finds = length-append (map (λ e. refined e (bit_of g n e)) f) a.finds ∙ ap (λ u. u + length a.finds) (length-map f (λ e. refined e (bit_of g n e))) in

@@ -5,7 +5,7 @@ use Rattle.speck.specs.declared.Part.{Part}
 use Rattle.speck.specs.declared.Part.TheVariants.{Block}
 use Rattle.speck.specs.Grid.{Grid, magnitude, upper, cell, parts, view, significant, inside, any_significant}
 use Rattle.speck.proofs.Possible.{Insignificant, Significant}
-use Rattle.speck.proofs.Geometry.{Made, made, Each, part-ind, LoudBy, significant_by, significant_one_cell}
+use Rattle.speck.proofs.Geometry.{Made, made, Each, part_ind, LoudBy, significant_by, significant_one_cell}
 
 pub record Tells (g : Grid) (n : ℕ) (p : Part) : Type 0 where
   pub yes! : significant g n p ≡ true → Significant g n (p ∷ [])
@@ -64,7 +64,7 @@ tells_more g n p k ks e t = record { yes! = y; no! = z }
     z h i j x = any_false g n (k ∷ ks) t (sym b ∙ h) i j (omega (arith, m i j))
 
 pub tells : (g : Grid) (n : ℕ) (p : Part) → Tells g n p
-tells g n = part-ind (Tells g n) (tells_one g n) (tells_more g n)
+tells g n = part_ind (Tells g n) (tells_one g n) (tells_more g n)
 
 -- and the other way round
 pub says_yes : (g : Grid) (n : ℕ) (p : Part) → Significant g n (p ∷ []) → significant g n p ≡ true

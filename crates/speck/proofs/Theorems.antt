@@ -14,7 +14,7 @@ use Rattle.speck.proofs.Tells.{any_significant_yes}
 use Rattle.speck.proofs.Steps.{Goes}
 use Rattle.speck.proofs.Trace.{Trace, trace_run, run_append, back_run, goes_on, begins, IsOn}
 use Rattle.speck.proofs.Walk.{Whole, survey_walk}
-use Rattle.speck.proofs.Count.{count, Sound, Sounds, run-count, start-count, run_sound, start_sound, All-at}
+use Rattle.speck.proofs.Count.{count, Sound, Sounds, run_count, start_count, run_sound, start_sound, AllAt}
 use Rattle.speck.proofs.Upper.{upper_none, none_upper, upper_some, some_upper}
 use Rattle.speck.proofs.Final.{near}
 use Rattle.speck.proofs.Fill.{fill, filled}
@@ -43,7 +43,7 @@ surveyed x k (suc n) g c = survey_walk x k n g (any_significant_yes g n (Block x
 
 -- what holds of a state that a run comes to
 reached_count : (x k P : ℕ) (bits : List Bool) (s : State) → run (going (start x k P)) bits ≡ going s → (i j : ℕ) → count s i j ≡ square (x + k) 0 0 i j
-reached_count x k P bits s e i j = subst (All-at i j (square (x + k) 0 0 i j)) e (run-count i j bits (square (x + k) 0 0 i j) (going (start x k P)) (start-count i j x k P))
+reached_count x k P bits s e i j = subst (AllAt i j (square (x + k) 0 0 i j)) e (run_count i j bits (square (x + k) 0 0 i j) (going (start x k P)) (start_count i j x k P))
 
 reached_sound : (x k P : ℕ) (bits : List Bool) (s : State) → run (going (start x k P)) bits ≡ going s → Sound s
 reached_sound x k P bits s e = subst Sounds e (run_sound bits (going (start x k P)) (start_sound x k P))

@@ -7,7 +7,7 @@ use Rattle.speck.specs.Grid.{Grid, outside, View, cell, parts, view, significant
 use Rattle.speck.specs.Survey.{Found, arranged, insert, refined, bit_of, Outcome, and_then, said_no, found_cell, opened, ask_part, ask_all, planes, survey}
 use Rattle.speck.specs.Machine.{State, owing, asking, finished, ask, answer, enter_plane, go_on, refine_on, unfolded, step, Next, going, start, significant?}
 use Rattle.speck.proofs.Trace.{Trace, trace_append}
-use Rattle.speck.proofs.Geometry.{Each, part-ind, LoudBy, significant_by}
+use Rattle.speck.proofs.Geometry.{Each, part_ind, LoudBy, significant_by}
 
 -- what is got of a part, by its view
 abbrev pub AskBy : Grid → ℕ → Part → View → Type 0
@@ -41,56 +41,56 @@ module _ (g : Grid) (n : ℕ) where
   both : (t : Next) (a b : Outcome) (mid free no₀ : List Part) (old new : List Found) → Leads t a mid no₀ old new → Leads (going (go_on n mid (no₀ ++ a.waits) old (new ++ a.finds))) b free (no₀ ++ a.waits) old (new ++ a.finds) → Leads t (and_then a b) free no₀ old new
   both t a b mid free no₀ old new h k = trace_append g a.bits b.bits t _ _ h (rw (append_assoc no₀, append_assoc new) at k)
 
-  may-walk : (p : Part) → Walk p → (free no₀ : List Part) (old new : List Found) → Leads (going (asking n p free no₀ old new)) (ask_part g n p) free no₀ old new
+  may_walk : (p : Part) → Walk p → (free no₀ : List Part) (old new : List Found) → Leads (going (asking n p free no₀ old new)) (ask_part g n p) free no₀ old new
   unfolding Walk
-  may-walk p w free no₀ old new = by (significant g n p) refl
+  may_walk p w free no₀ old new = by (significant g n p) refl
     where
       by : (b : Bool) → significant g n p ≡ b → Leads (going (asking n p free no₀ old new)) (ask_part g n p) free no₀ old new
       by true e = w e _ free no₀ old new refl refl
       by false e = rw (ask_no g n p e) (e, rw (append-nil new))
 
-  all-walk : (ps : List Part) → Each Walk ps → (free no₀ : List Part) (old new : List Found) → Leads (going (go_on n (ps ++ free) no₀ old new)) (ask_all g n ps) free no₀ old new
-  all-walk [] w free no₀ old new = rw (append-nil no₀, append-nil new)
-  all-walk (p ∷ ps) w free no₀ old new = both _ (ask_part g n p) (ask_all g n ps) (ps ++ free) free no₀ old new (may-walk p w.0 (ps ++ free) no₀ old new) (all-walk ps w.1 free _ old _)
+  all_walk : (ps : List Part) → Each Walk ps → (free no₀ : List Part) (old new : List Found) → Leads (going (go_on n (ps ++ free) no₀ old new)) (ask_all g n ps) free no₀ old new
+  all_walk [] w free no₀ old new = rw (append-nil no₀, append-nil new)
+  all_walk (p ∷ ps) w free no₀ old new = both _ (ask_part g n p) (ask_all g n ps) (ps ++ free) free no₀ old new (may_walk p w.0 (ps ++ free) no₀ old new) (all_walk ps w.1 free _ old _)
 
-  must-yes : (p : Part) (ps : List Part) → Each Walk (p ∷ ps) → significant g n p ≡ true → (free no₀ : List Part) (old new : List Found) → Leads (going (owing n p ps free no₀ old new)) (ask_all g n (p ∷ ps)) free no₀ old new
+  must_yes : (p : Part) (ps : List Part) → Each Walk (p ∷ ps) → significant g n p ≡ true → (free no₀ : List Part) (old new : List Found) → Leads (going (owing n p ps free no₀ old new)) (ask_all g n (p ∷ ps)) free no₀ old new
   unfolding Walk
-  must-yes p ps w e free no₀ old new = both _ (ask_part g n p) (ask_all g n ps) (ps ++ free) free no₀ old new (w.0 e _ (ps ++ free) no₀ old new refl refl) (all-walk ps w.1 free _ old _)
+  must_yes p ps w e free no₀ old new = both _ (ask_part g n p) (ask_all g n ps) (ps ++ free) free no₀ old new (w.0 e _ (ps ++ free) no₀ old new refl refl) (all_walk ps w.1 free _ old _)
 
-  must-walk : (ps : List Part) (p : Part) → Each Walk (p ∷ ps) → any_significant g n (p ∷ ps) ≡ true → (free no₀ : List Part) (old new : List Found) → Leads (going (owing n p ps free no₀ old new)) (ask_all g n (p ∷ ps)) free no₀ old new
-  must-walk [] p w a free no₀ old new = by (significant g n p) refl
+  must_walk : (ps : List Part) (p : Part) → Each Walk (p ∷ ps) → any_significant g n (p ∷ ps) ≡ true → (free no₀ : List Part) (old new : List Found) → Leads (going (owing n p ps free no₀ old new)) (ask_all g n (p ∷ ps)) free no₀ old new
+  must_walk [] p w a free no₀ old new = by (significant g n p) refl
     where
       by : (b : Bool) → significant g n p ≡ b → Leads (going (owing n p [] free no₀ old new)) (ask_all g n (p ∷ [])) free no₀ old new
-      by true e = must-yes p [] w e free no₀ old new
+      by true e = must_yes p [] w e free no₀ old new
       by false e = absurd (false≢true (rw e at a))
-  must-walk (p₁ ∷ ps) p w a free no₀ old new = by (significant g n p) refl (must-walk ps p₁ w.1)
+  must_walk (p₁ ∷ ps) p w a free no₀ old new = by (significant g n p) refl (must_walk ps p₁ w.1)
     where
       by : (b : Bool) → significant g n p ≡ b → (any_significant g n (p₁ ∷ ps) ≡ true → (free no₀ : List Part) (old new : List Found) → Leads (going (owing n p₁ ps free no₀ old new)) (ask_all g n (p₁ ∷ ps)) free no₀ old new) → Leads (going (owing n p (p₁ ∷ ps) free no₀ old new)) (ask_all g n (p ∷ p₁ ∷ ps)) free no₀ old new
-      by true e ih = must-yes p (p₁ ∷ ps) w e free no₀ old new
+      by true e ih = must_yes p (p₁ ∷ ps) w e free no₀ old new
       by false e ih = rw (ask_no g n p e) (e, rw (append_assoc no₀) at (ih (rw e at a) free (no₀ ++ p ∷ []) old new))
 
-  walk-one : (r c : ℕ) → Walk (Block 0 r c)
+  walk_one : (r c : ℕ) → Walk (Block 0 r c)
   unfolding Walk
-  walk-one r c l s free no₀ old new q h = rw (ask_by g n (Block 0 r c), l) (ap (answer g) q ∙ l, rw h (refl, rw (append-nil no₀)))
+  walk_one r c l s free no₀ old new q h = rw (ask_by g n (Block 0 r c), l) (ap (answer g) q ∙ l, rw h (refl, rw (append-nil no₀)))
 
   walk_more : (p k : Part) (ks : List Part) → view p ≡ parts k ks → Each Walk (k ∷ ks) → Walk p
   unfolding Walk
   walk_more p k ks e w l s free no₀ old new q h =
       let a : ask_part g n p ≡ cond (significant g n p) (opened (ask_all g n (k ∷ ks))) (said_no p) = subst (AskBy g n p) e (ask_by g n p) in
       let b : significant g n p ≡ any_significant g n (k ∷ ks) = subst (LoudBy g n p) e (significant_by g n p) in
-      rw (a, l) (ap (answer g) q ∙ l, rw (h, e) (must-walk ks k w (sym b ∙ l) free no₀ old new))
+      rw (a, l) (ap (answer g) q ∙ l, rw (h, e) (must_walk ks k w (sym b ∙ l) free no₀ old new))
 
   walk : (p : Part) → Walk p
-  walk = part-ind Walk walk-one walk_more
+  walk = part_ind Walk walk_one walk_more
 
   walks : (ps : List Part) → Each Walk ps
   walks [] = tt
   walks (p ∷ ps) = (walk p, walks ps)
 
   -- the bits of the cells found before
-  turn-walk : (todo done : List Found) (no₀ : List Part) (new : List Found) → Trace g (map (bit_of g n) todo) (going (refine_on n todo done no₀ new)) (going (enter_plane n no₀ (done ++ (map (λ e. refined e (bit_of g n e)) todo ++ new))))
-  turn-walk [] done no₀ new = refl
-  turn-walk (e ∷ todo) done no₀ new = (refl, rw (append_assoc done) at (turn-walk todo (done ++ refined e (bit_of g n e) ∷ []) no₀ new))
+  turn_walk : (todo done : List Found) (no₀ : List Part) (new : List Found) → Trace g (map (bit_of g n) todo) (going (refine_on n todo done no₀ new)) (going (enter_plane n no₀ (done ++ (map (λ e. refined e (bit_of g n e)) todo ++ new))))
+  turn_walk [] done no₀ new = refl
+  turn_walk (e ∷ todo) done no₀ new = (refl, rw (append_assoc done) at (turn_walk todo (done ++ refined e (bit_of g n e) ∷ []) no₀ new))
 
 -- g answers the bits from t to the end
 pub record Whole (g : Grid) (bs : List Bool) (t : Next) : Type 0 where
@@ -108,8 +108,8 @@ planes_walk g (suc n) w f =
     let a : Outcome = ask_all g n (arranged w) in
     let f' = map (λ e. refined e (bit_of g n e)) f ++ a.finds in
     let r = planes g n a.waits f' in
-    let e₁ = all-walk g n (arranged w) (walks g n (arranged w)) [] [] f [] in
-    let e₂ = turn-walk g n f [] a.waits a.finds in
+    let e₁ = all_walk g n (arranged w) (walks g n (arranged w)) [] [] f [] in
+    let e₂ = turn_walk g n f [] a.waits a.finds in
     whole_append g a.bits _ _ _ (rw (append-nil (arranged w)) at e₁) (whole_append g (map (bit_of g n) f) r _ _ e₂ (planes_walk g n a.waits f'))
 
 keeps : (k x : ℕ) → arranged (Block x 0 0 ∷ outside k x) ≡ Block x 0 0 ∷ outside k x
@@ -122,5 +122,5 @@ pub survey_walk : (x k n : ℕ) (g : Grid) → any_significant g n (Block x 0 0 
 survey_walk x k n g l =
     let w : List Part = Block x 0 0 ∷ outside k x in
     let a : Outcome = ask_all g n w in
-    let e = must-walk g n (outside k x) (Block x 0 0) (walks g n w) l [] [] [] [] in
+    let e = must_walk g n (outside k x) (Block x 0 0) (walks g n w) l [] [] [] [] in
     rw (keeps k x) (whole_append g a.bits _ _ _ e (planes_walk g n a.waits a.finds))

@@ -6,7 +6,7 @@ use Rattle.bits.proofs.Writes.{read_packed}
 use Rattle.bits.proofs.bit.Goals as goal
 
 pub returns-then-k-bytes : goal.returns-then-k-bytes
-returns-then-k-bytes c = record { value = ap (λ x. eqb x 1) (and_mask _ 1); packed-bits-are-read = read_packed }
+returns-then-k-bytes c = record { value = ap (λ x. eqb x 1) (and_mask _ 1); packed_bits_are_read = read_packed }
 
 pub returns-else-k-bytes : goal.returns-else-k-bytes
 returns-else-k-bytes c =
@@ -14,5 +14,5 @@ returns-else-k-bytes c =
     let none = zero-div (2 ^ (7 - c.args.i % 8)) in
     record {
       value = sym (ap (λ x. eqb (x / 2 ^ (7 - c.args.i % 8) % 2) 1) past ∙ ap (λ x. eqb (x % 2) 1) none);
-      packed-bits-are-read = read_packed;
+      packed_bits_are_read = read_packed;
     }

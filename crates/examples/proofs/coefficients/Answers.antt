@@ -11,15 +11,15 @@ use Rattle.examples.proofs.coefficients.Goals as goal
 pub returns : goal.returns
 returns c =
     let s = answers_value c.new.result (shape_fault 1 1) _ c.unwrap-shape.result c.new.ensures c.unwrap-shape.ensures in
-    let f = c.in-ok-frame.frame in
-    let m : f.shape.exponent ≡ 1 = ap (λ x. x.exponent) c.in-ok-frame.ensures.0 ∙ s.0 in
-    let k : f.shape.levels ≡ 1 = ap (λ x. x.levels) c.in-ok-frame.ensures.0 ∙ s.1 in
+    let f = c.in_ok-frame.frame in
+    let m : f.shape.exponent ≡ 1 = ap (λ x. x.exponent) c.in_ok-frame.ensures.0 ∙ s.0 in
+    let k : f.shape.levels ≡ 1 = ap (λ x. x.levels) c.in_ok-frame.ensures.0 ∙ s.1 in
     let e₁ = c.enter.ensures.shape in
     let e₂ = c.enter-2.ensures.shape ∙ e₁ in
     let e₃ = c.enter-3.ensures.shape ∙ e₂ in
     let e = c.close.ensures.shape ∙ c.enter-4.ensures.shape ∙ e₃ in
-    let t = told _ _ _ _ _ _ _ _ _ _ s.0 m (ap (λ x. x.exponent) e₁ ∙ m) (ap (λ x. x.exponent) e₂ ∙ m) (ap (λ x. x.exponent) e₃ ∙ m) c.in-ok-frame.ensures.1 c.enter.ensures.cells c.enter-2.ensures.cells c.enter-3.ensures.cells c.enter-4.ensures.cells in
+    let t = told _ _ _ _ _ _ _ _ _ _ s.0 m (ap (λ x. x.exponent) e₁ ∙ m) (ap (λ x. x.exponent) e₂ ∙ m) (ap (λ x. x.exponent) e₃ ∙ m) c.in_ok-frame.ensures.1 c.enter.ensures.cells c.enter-2.ensures.cells c.enter-3.ensures.cells c.enter-4.ensures.cells in
     record { table = worked; made = IfOk-weaker c.of.result (λ x. Transformed c.close.result x) (λ x. On 2 (λ i j. coefficients_of x i j ≡ coefficients2 i j)) (λ x h. made2 _ _ _ (coefficients_of x) (ap (λ x. x.exponent) e ∙ m) (ap (λ x. x.levels) e ∙ k) (c.close.ensures.cells ∙ t) h.defined) c.of.ensures }
 
-pub returns-in-err-frame : goal.returns-in-err-frame
-returns-in-err-frame c = record { table = worked; made = search rules }
+pub returns-in_err-frame : goal.returns-in_err-frame
+returns-in_err-frame c = record { table = worked; made = search rules }

@@ -1,7 +1,7 @@
 use Rattle.std.proofs.Common.{◌≡◌, true, false, get_or, is_some, None, vec_items, sym, refl, ap, ◌∙◌}
 use Rattle.std.proofs.lemmas.Int.{to_z-of_z}
 use Rattle.frame.specs.Cells.{in_span}
-use Rattle.frame.proofs.Entries.{read_at, spanned, told-twice, told-once, set_stands}
+use Rattle.frame.proofs.Entries.{read_at, spanned, told_twice, told_once, set_stands}
 use Rattle.frame.proofs.OpenFrame.enter.Goals as goal
 
 pub returns-then-is-some : goal.returns-then-is-some
@@ -10,7 +10,7 @@ returns-then-is-some c =
     let s : in_span c.args.height ≡ true = spanned c.ranges.height c.if-not-in-span.ensures in
     let r = read_at xs _ c.in-Some.place _ c.index.result.now c.args.self.now.cells.ok.0 c.args.self.now.whole c.in-Some.ensures.inside c.index.ensures in
     let t : is_some (get_or xs c.in-Some.place None) ≡ true = ap is_some (sym r.1) ∙ sym c.if-is-some.ensures in
-    let e = told-twice c.args.self.now.shape.exponent xs c.args.row c.args.column c.in-Some.place c.args.height s c.in-Some.ensures.value t in
+    let e = told_twice c.args.self.now.shape.exponent xs c.args.row c.args.column c.in-Some.place c.args.height s c.in-Some.ensures.value t in
     record { answer = e.0; cells = e.1; shape = refl }
 
 pub returns : goal.returns
@@ -20,7 +20,7 @@ returns c =
     let s : in_span c.args.height ≡ true = spanned c.ranges.height c.if-not-in-span.ensures in
     let r = read_at xs _ c.in-Some.place _ c.index.result.now c.args.self.now.cells.ok.0 c.args.self.now.whole c.in-Some.ensures.inside c.index.ensures in
     let t : is_some (get_or xs c.in-Some.place None) ≡ false = ap is_some (sym r.1) ∙ sym c.if-is-some.ensures in
-    let e = told-once c.args.self.now.shape.exponent xs c.args.row c.args.column c.in-Some.place c.args.height s c.in-Some.ensures.value t in
+    let e = told_once c.args.self.now.shape.exponent xs c.args.row c.args.column c.in-Some.place c.args.height s c.in-Some.ensures.value t in
     simp to_z-of_z (record { answer = (e.0, tt); cells = e.1; shape = refl })
 
 pub invariant-of-self : goal.invariant-of-self

@@ -4,5 +4,5 @@ use Rattle.frame.proofs.OpenFrame.open.Goals as goal
 
 pub invariant-of-result : goal.invariant-of-result
 invariant-of-result c =
-    let e : vec_items c.in-ok-cells.cells ≡ replicate c.area.result None = search rules in
-    (c.in-ok-cells.ensures.len ∙ c.area.ensures.value, (rw e (untold_stands c.area.result), tt))
+    let e : vec_items c.in_ok-cells.cells ≡ replicate c.area.result None = search rules in
+    (c.in_ok-cells.ensures.len ∙ c.area.ensures.value, (rw e (untold_stands c.area.result), tt))

@@ -1,7 +1,7 @@
 use Rattle.std.proofs.Common.{◌≡◌, ◌+◌, ◌-◌, max, set, sym, ap, ◌∙◌, subst, arith}
 use Rattle.transform.specs.Transform.{grid_of}
 use Rattle.ground.specs.Peaks.{Filled, peak_of}
-use Rattle.ground.proofs.Peaks.{filled-block, filled_cell, peak_cell, peak_more, quarter_tree}
+use Rattle.ground.proofs.Peaks.{filled_block, filled_cell, peak_cell, peak_more, quarter_tree}
 use Rattle.ground.proofs.peak.+fill.Goals as goal
 
 pub returns-then-side-eq0 : goal.returns-then-side-eq0
@@ -43,6 +43,6 @@ returns t c =
     record {
       value = is;
       filled = subst (λ p. Filled m g s i j c.args.peaks.now (set c.fill-d.new.peaks p v)) (sym c.place-at.ensures.value)
-          (filled-block m g s (s - 1) i j c.args.peaks.now c.fill-a.new.peaks c.fill-b.new.peaks c.fill-c.new.peaks c.fill-d.new.peaks v c.requires.tree (omega (arith, c.requires.room)) e is
+          (filled_block m g s (s - 1) i j c.args.peaks.now c.fill-a.new.peaks c.fill-b.new.peaks c.fill-c.new.peaks c.fill-d.new.peaks v c.requires.tree (omega (arith, c.requires.room)) e is
           c.fill-a.ensures.filled c.fill-b.ensures.filled c.fill-c.ensures.filled c.fill-d.ensures.filled);
     }

@@ -2,7 +2,7 @@ use Rattle.std.proofs.Common.{◌≡◌, ◌^◌, map, length, vec_items, sym, a
 use Rattle.std.proofs.lemmas.List.{with_items_is}
 use Rattle.frame.specs.Cells.{settled}
 use Rattle.transform.specs.Transform.{transform}
-use Rattle.heights.proofs.Settling.{heights-span, heights-whole, coefficients-small, coefficients-defined, coefficients-back}
+use Rattle.heights.proofs.Settling.{heights_span, heights_whole, coefficients_small, coefficients_defined, coefficients_back}
 use Rattle.heights.proofs.Coefficients.of.Goals as goal
 
 pub transform-requires : goal.transform-requires
@@ -10,9 +10,9 @@ transform-requires c =
     let f = c.args.frame.now in
     let m = f.shape.exponent in
     let w : length (vec_items f.cells) ≡ 4 ^ m = sym f.cells.ok.0 ∙ f.whole in
-    let e : c.as-mut-slice.result.now ≡ map settled (vec_items f.cells) = c.as-mut-slice.ensures.value ∙ c.in-ok-values.ensures in
-    let l = heights-whole m (vec_items f.cells) _ w f.allowed e in
-    rw c.shape-shape.ensures (record { whole = omega arith; span = heights-span m (vec_items f.cells) _ w f.allowed e })
+    let e : c.as-mut-slice.result.now ≡ map settled (vec_items f.cells) = c.as-mut-slice.ensures.value ∙ c.in_ok-values.ensures in
+    let l = heights_whole m (vec_items f.cells) _ w f.allowed e in
+    rw c.shape-shape.ensures (record { whole = omega arith; span = heights_span m (vec_items f.cells) _ w f.allowed e })
 
 pub invariant-of-result : goal.invariant-of-result
 invariant-of-result c =
@@ -21,10 +21,10 @@ invariant-of-result c =
     let zs = c.transform.new.values in
     let x : c.shape-shape.result.exponent ≡ m = ap (λ s. s.exponent) c.shape-shape.ensures in
     let w : length (vec_items f.cells) ≡ 4 ^ m = sym f.cells.ok.0 ∙ f.whole in
-    let e : c.as-mut-slice.result.now ≡ map settled (vec_items f.cells) = c.as-mut-slice.ensures.value ∙ c.in-ok-values.ensures in
-    let l = heights-whole m (vec_items f.cells) _ w f.allowed e in
-    let v : length zs ≡ c.in-ok-values.values.len = omega arith in
-    (rw x (omega arith), (rw (with_items_is c.in-ok-values.values zs v) (coefficients-small m (vec_items f.cells) _ w f.allowed e _ zs (omega arith) (rw x at c.transform.ensures)), tt))
+    let e : c.as-mut-slice.result.now ≡ map settled (vec_items f.cells) = c.as-mut-slice.ensures.value ∙ c.in_ok-values.ensures in
+    let l = heights_whole m (vec_items f.cells) _ w f.allowed e in
+    let v : length zs ≡ c.in_ok-values.values.len = omega arith in
+    (rw x (omega arith), (rw (with_items_is c.in_ok-values.values zs v) (coefficients_small m (vec_items f.cells) _ w f.allowed e _ zs (omega arith) (rw x at c.transform.ensures)), tt))
 
 pub returns : goal.returns
 returns c =
@@ -35,13 +35,13 @@ returns c =
     let x : c.shape-shape.result.exponent ≡ m = ap (λ s. s.exponent) c.shape-shape.ensures in
     let y : c.levels.result ≡ k = c.levels.ensures ∙ ap (λ s. s.levels) c.shape-shape.ensures in
     let w : length (vec_items f.cells) ≡ 4 ^ m = sym f.cells.ok.0 ∙ f.whole in
-    let e : c.as-mut-slice.result.now ≡ map settled (vec_items f.cells) = c.as-mut-slice.ensures.value ∙ c.in-ok-values.ensures in
-    let l = heights-whole m (vec_items f.cells) _ w f.allowed e in
-    let v : length zs ≡ c.in-ok-values.values.len = omega arith in
-    let r = with_items_is c.in-ok-values.values zs v in
+    let e : c.as-mut-slice.result.now ≡ map settled (vec_items f.cells) = c.as-mut-slice.ensures.value ∙ c.in_ok-values.ensures in
+    let l = heights_whole m (vec_items f.cells) _ w f.allowed e in
+    let v : length zs ≡ c.in_ok-values.values.len = omega arith in
+    let r = with_items_is c.in_ok-values.values zs v in
     let t = rw (x, y) at c.transform.ensures in
     record {
       shape = c.shape-shape.ensures;
-      defined = rw (x, r) (coefficients-defined m (vec_items f.cells) _ w f.allowed e k zs (omega arith) t);
-      back = rw (x, r) (coefficients-back m (vec_items f.cells) _ w f.allowed e k zs (omega arith) t);
+      defined = rw (x, r) (coefficients_defined m (vec_items f.cells) _ w f.allowed e k zs (omega arith) t);
+      back = rw (x, r) (coefficients_back m (vec_items f.cells) _ w f.allowed e k zs (omega arith) t);
     }

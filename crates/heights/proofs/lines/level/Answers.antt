@@ -9,7 +9,7 @@ halve-lines-requires c =
     let m = c.args.shape.exponent in
     let w : 2 ^ m * 2 ^ m ≤ length c.args.values.now = rw (area m) c.requires.whole in
     rw c.side-side.ensures.value
-    (record { inner = c.requires.inner; few = omega arith; along-some = omega arith; across_small = omega arith; apart = rows_apart m; inside = rows_within m _ w; small = λ i j p q. omega (arith, rows_fit m _ c.requires.small i j p q); room = c.requires.room })
+    (record { inner = c.requires.inner; few = omega arith; along_some = omega arith; across_small = omega arith; apart = rows_apart m; inside = rows_within m _ w; small = λ i j p q. omega (arith, rows_fit m _ c.requires.small i j p q); room = c.requires.room })
 
 pub halve-lines-requires-2 : goal.halve-lines-requires-2
 halve-lines-requires-2 c =
@@ -17,7 +17,7 @@ halve-lines-requires-2 c =
     let w : 2 ^ m * 2 ^ m ≤ length c.halve-lines.new.values = rw (area m) (omega arith) in
     let rows = rw c.side-side.ensures.value at c.halve-lines.ensures in
     rw c.side-side.ensures.value
-    (record { inner = c.requires.inner; few = omega arith; along-some = pow_pos m; across_small = omega arith; apart = columns_apart m; inside = columns_within m _ w; small = λ i j p q. omega (arith, columns_fit m c.args.half _ _ c.requires.inner c.requires.small rows i j p q); room = omega arith })
+    (record { inner = c.requires.inner; few = omega arith; along_some = pow_pos m; across_small = omega arith; apart = columns_apart m; inside = columns_within m _ w; small = λ i j p q. omega (arith, columns_fit m c.args.half _ _ c.requires.inner c.requires.small rows i j p q); room = omega arith })
 
 pub returns : goal.returns
 returns c =

@@ -8,7 +8,7 @@ use Rattle.heights.proofs.undoing.finer.Goals as goal
 pub one-of-requires : goal.one-of-requires
 one-of-requires g c =
     let b = c.differences-at-block.ensures in
-    record { low_small = omega (arith, ints, c.one-of-left.ensures.small, b.below_small); difference-small = omega (arith, ints, c.one-of-right.ensures.small, b.beside_small, b.across_small) }
+    record { low_small = omega (arith, ints, c.one-of-left.ensures.small, b.below_small); difference_small = omega (arith, ints, c.one-of-right.ensures.small, b.beside_small, b.across_small) }
 
 pub returns : goal.returns
 returns g c =

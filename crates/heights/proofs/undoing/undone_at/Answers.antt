@@ -27,7 +27,7 @@ finer-height-requires g c =
     let h : 2 * (c.side.result / 2 ^ (u + 1)) ≡ 2 ^ (m - u) = rw e (half_side m u (omega arith)) in
     let p : 2 ^ (m - u) ≤ 2 ^ m = pow_mono (omega arith) in
     let r = square_in m u c.args.row (omega arith) c.requires.row_in in
-    let s = square_in m u c.args.column (omega arith) c.requires.column-in in
+    let s = square_in m u c.args.column (omega arith) c.requires.column_in in
     record { inner = omega arith; row_in = omega arith; column_in = omega arith; low_small = omega (arith, c.loop-t.invariant.bound) }
 
 pub loop-t-preserved : goal.loop-t-preserved
@@ -42,7 +42,7 @@ loop-t-preserved g c =
     let h : 2 * (c.side.result / 2 ^ (u + 1)) ≡ 2 ^ (m - u) = rw e (half_side m u (omega arith)) in
     let n : c.loop-t.t ≡ u + 1 = omega arith in
     let f : SFits w32 c.finer-height.result = search rules in
-    simp to_z-of_z (walked_more m (d.shaped x).levels c.args.row c.args.column (c.side.result / 2 ^ (u + 1)) (d.coefs x) u _ c.finer-height.result (omega arith) w c.requires.row_in c.requires.column-in h
+    simp to_z-of_z (walked_more m (d.shaped x).levels c.args.row c.args.column (c.side.result / 2 ^ (u + 1)) (d.coefs x) u _ c.finer-height.result (omega arith) w c.requires.row_in c.requires.column_in h
     (rw n at c.loop-t.invariant) c.finer-height.ensures.value c.finer-height.ensures.small)
 
 pub returns : goal.returns

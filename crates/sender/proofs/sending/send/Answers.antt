@@ -9,29 +9,29 @@ use Rattle.sender.proofs.Heads.{never_longer, sends_frame, shape_headed}
 use Rattle.sender.proofs.Loops.{Followed, asks_about, finish_all, finish_slot, refused, room_for, taken_ok, taken_on, told_none, told_on}
 use Rattle.sender.proofs.sending.send.Goals as goal
 
-pub returns-in-err-admit : goal.returns-in-err-admit
-returns-in-err-admit g c =
+pub returns-in_err-admit : goal.returns-in_err-admit
+returns-in_err-admit g c =
     let x = c.args.ground.now in
     let h = g.G.Ground.headed x in
     let d = g.G.Ground.grid x in
     let old = c.args.out.now in
     let p = err_from_is_err_and c.from-residual.result c.from-residual.ensures.1 in
     record {
-      sends = subst (Sends (survey_of h d) c.args.slot old old) (sym (p.1 ∙ ap Err p.2)) (refused (survey_of h d) c.args.slot old _ c.in-err-admit.ensures);
-      of-the-frame = sends_frame h d (g.met.G.Ground.counted x);
+      sends = subst (Sends (survey_of h d) c.args.slot old old) (sym (p.1 ∙ ap Err p.2)) (refused (survey_of h d) c.args.slot old _ c.in_err-admit.ensures);
+      of_the_frame = sends_frame h d (g.met.G.Ground.counted x);
       never_longer = never_longer h d;
     }
 
-pub returns-in-err-walk : goal.returns-in-err-walk
-returns-in-err-walk g c =
+pub returns-in_err-walk : goal.returns-in_err-walk
+returns-in_err-walk g c =
     let x = c.args.ground.now in
     let h = g.G.Ground.headed x in
     let d = g.G.Ground.grid x in
     let old = c.args.out.now in
-    let p = err_from_is_err_and c.from-residual-in-err-walk.result c.from-residual-in-err-walk.ensures.1 in
+    let p = err_from_is_err_and c.from-residual-in_err-walk.result c.from-residual-in_err-walk.ensures.1 in
     record {
-      sends = subst (Sends (survey_of h d) c.args.slot old old) (sym (p.1 ∙ ap Err p.2)) (c.in-ok-admit.ensures.0, refl);
-      of-the-frame = sends_frame h d (g.met.G.Ground.counted x);
+      sends = subst (Sends (survey_of h d) c.args.slot old old) (sym (p.1 ∙ ap Err p.2)) (c.in_ok-admit.ensures.0, refl);
+      of_the_frame = sends_frame h d (g.met.G.Ground.counted x);
       never_longer = never_longer h d;
     }
 
@@ -43,7 +43,7 @@ loop-i-init g c =
       bits = [];
       count = refl;
       begins = (survey_of h d, refl);
-      follows = subst (λ (k : Head). Followed c.in-ok-walk.walk k []) c.head.ensures c.in-ok-walk.ensures.follows;
+      follows = subst (λ (k : Head). Followed c.in_ok-walk.walk k []) c.head.ensures c.in_ok-walk.ensures.follows;
       written = written_none c.args.out.now;
     }
 
@@ -57,12 +57,12 @@ returns-in-default g c =
     let d = g.G.Ground.grid x in
     let v = c.loop-i.invariant in
     let old = c.args.out.now in
-    let f = c.in-ok-admit.ensures.0 in
+    let f = c.in_ok-admit.ensures.0 in
     let n = c.question.ensures.next _ _ _ v.bits d v.follows (shape_headed h.shape h.planes d (g.met.G.Ground.counted x)) v.begins in
     let e = told_none d (asks c.question.result) v.bits (survey_of h d) c.in-default.ensures n in
     record {
       sends = finish_all v.bits (survey_of h d) c.args.slot c.loop-i.i old c.loop-i.out f (room_for c.args.slot old f) v.count (omega arith) e v.written;
-      of-the-frame = sends_frame h d (g.met.G.Ground.counted x);
+      of_the_frame = sends_frame h d (g.met.G.Ground.counted x);
       never_longer = never_longer h d;
     }
 
@@ -92,7 +92,7 @@ loop-i-preserved g c =
       count = omega (arith, length_push v.bits b, v.count);
       begins = told_on d (asks c.question.result) b v.bits (survey_of h d) c.in-Some.ensures n;
       follows = taken_on c.step.result c.unwrap.result c.step.new.self (h.shape.exponent - h.shape.levels) h.shape.levels h.planes (v.bits ++ b ∷ []) c.unwrap.ensures (c.step.ensures.judged _ _ _ v.bits v.follows);
-      written = c.put.ensures.packs v.bits old v.count (omega (arith, room_for c.args.slot old c.in-ok-admit.ensures.0)) v.written;
+      written = c.put.ensures.packs v.bits old v.count (omega (arith, room_for c.args.slot old c.in_ok-admit.ensures.0)) v.written;
     }
 
 pub returns : goal.returns
@@ -102,9 +102,9 @@ returns g c =
     let d = g.G.Ground.grid x in
     let v = c.loop-i.invariant in
     let old = c.args.out.now in
-    let f = c.in-ok-admit.ensures.0 in
+    let f = c.in_ok-admit.ensures.0 in
     record {
       sends = finish_slot v.bits (survey_of h d) c.args.slot old c.loop-i.out f (room_for c.args.slot old f) (omega (arith, v.count)) v.begins v.written;
-      of-the-frame = sends_frame h d (g.met.G.Ground.counted x);
+      of_the_frame = sends_frame h d (g.met.G.Ground.counted x);
       never_longer = never_longer h d;
     }

@@ -8,18 +8,18 @@ use Rattle.speck.proofs.laws.laws.Goals as goal
 
 pub returns : goal.returns
 returns c = record {
-  asking-gives-the-survey = asking_gives;
+  asking_gives_the_survey = asking_gives;
   question_is_next = question_is_next;
-  questions-are-about-the-grid = about_grid;
-  surveys-speak-of-cells-alone = of_cells;
-  surveys-give-grids = gives-grid;
-  wholes-are-surveys = honest;
-  refused-exactly = refused;
-  near-after-every-bit = near_always;
+  questions_are_about_the_grid = about_grid;
+  surveys_speak_of_cells_alone = of_cells;
+  surveys_give_grids = gives-grid;
+  wholes_are_surveys = honest;
+  refused_exactly = refused;
+  near_after_every_bit = near_always;
   one_place = one_place;
-  at-most-86101-bits = survey_length;
-  one-plane-count = one_count;
-  significance-is-literal = significance;
-  significance-by-quarters = by_parts;
+  at_most_86101_bits = survey_length;
+  one_plane_count = one_count;
+  significance_is_literal = significance;
+  significance_by_quarters = by_parts;
   places_suffice = places_suffice;
 }

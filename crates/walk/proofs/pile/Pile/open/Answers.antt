@@ -4,4 +4,4 @@ use Rattle.walk.proofs.pile.Pile.open.Goals as goal
 
 pub returns : goal.returns
 unfolding pile_of
-returns c = let e = c.in-ok-items.ensures in (ap reverse e.items, e.capacity)
+returns c = let e = c.in_ok-items.ensures in (ap reverse e.items, e.capacity)
