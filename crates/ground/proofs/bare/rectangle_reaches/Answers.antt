@@ -3,15 +3,15 @@ use Rattle.std.proofs.lemmas.Bool.{both_ways, cases_lt}
 use Rattle.ground.proofs.Searching.{found, row_end, unfound}
 use Rattle.ground.proofs.bare.rectangle_reaches.Goals as goal
 
-pub slice-bounds-some-reach-end : goal.slice-bounds-some-reach-end
-slice-bounds-some-reach-end c =
+pub slice-bounds-some_reach-end : goal.slice-bounds-some_reach-end
+slice-bounds-some_reach-end c =
     let e = row_end c.args.shape.exponent c.side-side.result c.loop-row.row c.args.cells.right _ c.side-side.ensures.value c.requires.whole (omega arith) (omega arith) in
     omega arith
 
-pub returns-then-some-reach : goal.returns-then-some-reach
-returns-then-some-reach c =
+pub returns-then-some_reach : goal.returns-then-some_reach
+returns-then-some_reach c =
     let a = c.args.cells in (
-      λ e. found c.args.shape.exponent c.side-side.result c.args.values.now a.top a.bottom a.left a.right c.args.least c.side-side.ensures.value c.requires.whole c.requires.rows c.requires.columns c.requires.across c.loop-row.row (omega arith) (omega arith) (c.some-reach.ensures.0 c.if-some-reach.true),
+      λ e. found c.args.shape.exponent c.side-side.result c.args.values.now a.top a.bottom a.left a.right c.args.least c.side-side.ensures.value c.requires.whole c.requires.rows c.requires.columns c.requires.across c.loop-row.row (omega arith) (omega arith) (c.some_reach.ensures.0 c.if-some_reach.true),
       λ q. refl,
     )
 
@@ -24,6 +24,6 @@ loop-row-preserved c i j t b l r = elim (cases_lt i c.loop-row.row) [
       let side = c.side-side.result in
       let e : i ≡ c.loop-row.row = omega arith in
       let s = c.side-side.ensures.value in
-      let n = unfound m side c.args.values.now a.top a.bottom a.left a.right c.args.least s c.requires.whole c.requires.rows c.requires.columns c.requires.across c.loop-row.row (omega arith) (λ q. both_ways _ c.if-some-reach.false (c.some-reach.ensures.1 q)) j l r in
+      let n = unfound m side c.args.values.now a.top a.bottom a.left a.right c.args.least s c.requires.whole c.requires.rows c.requires.columns c.requires.across c.loop-row.row (omega arith) (λ q. both_ways _ c.if-some_reach.false (c.some_reach.ensures.1 q)) j l r in
       rw (e, s) n
 ]

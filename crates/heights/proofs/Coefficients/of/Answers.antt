@@ -10,21 +10,21 @@ transform-requires c =
     let f = c.args.frame.now in
     let m = f.shape.exponent in
     let w : length (vec_items f.cells) ≡ 4 ^ m = sym f.cells.ok.0 ∙ f.whole in
-    let e : c.as-mut-slice.result.now ≡ map settled (vec_items f.cells) = c.as-mut-slice.ensures.value ∙ c.in_ok-values.ensures in
+    let e : c.as_mut_slice.result.now ≡ map settled (vec_items f.cells) = c.as_mut_slice.ensures.value ∙ c.in_ok-values.ensures in
     let l = heights_whole m (vec_items f.cells) _ w f.allowed e in
     rw c.shape-shape.ensures (record { whole = omega arith; span = heights_span m (vec_items f.cells) _ w f.allowed e })
 
-pub invariant-of-result : goal.invariant-of-result
-invariant-of-result c =
+pub invariant_of-result : goal.invariant_of-result
+invariant_of-result c =
     let f = c.args.frame.now in
     let m = f.shape.exponent in
     let zs = c.transform.new.values in
     let x : c.shape-shape.result.exponent ≡ m = ap (λ s. s.exponent) c.shape-shape.ensures in
     let w : length (vec_items f.cells) ≡ 4 ^ m = sym f.cells.ok.0 ∙ f.whole in
-    let e : c.as-mut-slice.result.now ≡ map settled (vec_items f.cells) = c.as-mut-slice.ensures.value ∙ c.in_ok-values.ensures in
+    let e : c.as_mut_slice.result.now ≡ map settled (vec_items f.cells) = c.as_mut_slice.ensures.value ∙ c.in_ok-values.ensures in
     let l = heights_whole m (vec_items f.cells) _ w f.allowed e in
     let v : length zs ≡ c.in_ok-values.values.len = omega arith in
-    (rw x (omega arith), (rw (with_items_is c.in_ok-values.values zs v) (coefficients_small m (vec_items f.cells) _ w f.allowed e _ zs (omega arith) (rw x at c.transform.ensures)), tt))
+    record { whole = rw x (omega arith); small = rw (with_items_is c.in_ok-values.values zs v) (coefficients_small m (vec_items f.cells) _ w f.allowed e _ zs (omega arith) (rw x at c.transform.ensures)) }
 
 pub returns : goal.returns
 returns c =
@@ -35,7 +35,7 @@ returns c =
     let x : c.shape-shape.result.exponent ≡ m = ap (λ s. s.exponent) c.shape-shape.ensures in
     let y : c.levels.result ≡ k = c.levels.ensures ∙ ap (λ s. s.levels) c.shape-shape.ensures in
     let w : length (vec_items f.cells) ≡ 4 ^ m = sym f.cells.ok.0 ∙ f.whole in
-    let e : c.as-mut-slice.result.now ≡ map settled (vec_items f.cells) = c.as-mut-slice.ensures.value ∙ c.in_ok-values.ensures in
+    let e : c.as_mut_slice.result.now ≡ map settled (vec_items f.cells) = c.as_mut_slice.ensures.value ∙ c.in_ok-values.ensures in
     let l = heights_whole m (vec_items f.cells) _ w f.allowed e in
     let v : length zs ≡ c.in_ok-values.values.len = omega arith in
     let r = with_items_is c.in_ok-values.values zs v in

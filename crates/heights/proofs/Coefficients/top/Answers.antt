@@ -6,9 +6,9 @@ use Rattle.heights.proofs.Coefficients.top.Goals as goal
 pub loop-value-preserved : goal.loop-value-preserved
 loop-value-preserved c =
     let f : SFits w32 (get_or c.deref-value-items.result.now c.loop-value.value-index (pos 0)) = search rules in
-    let v : c.unsigned-abs.result ≡ nat_abs (get_or c.deref-value-items.result.now c.loop-value.value-index (pos 0)) = simp to_z-of_z at c.unsigned-abs.ensures.value in
-    let e : c.max-top.result ≡ max c.loop-value.top c.unsigned-abs.result = search rules in
-    rw e (top_more _ _ c.loop-value.top c.unsigned-abs.result c.loop-value.invariant v)
+    let v : c.unsigned_abs.result ≡ nat_abs (get_or c.deref-value-items.result.now c.loop-value.value-index (pos 0)) = simp to_z-of_z at c.unsigned_abs.ensures.value in
+    let e : c.max-top.result ≡ max c.loop-value.top c.unsigned_abs.result = search rules in
+    rw e (top_more _ _ c.loop-value.top c.unsigned_abs.result c.loop-value.invariant v)
 
 pub returns : goal.returns
 returns c = rw (← c.deref-value-items.ensures.value) (top_all _ c.loop-value.value-index _ (omega arith) c.loop-value.invariant)

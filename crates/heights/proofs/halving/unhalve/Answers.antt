@@ -8,6 +8,6 @@ use Rattle.heights.proofs.halving.unhalve.Goals as goal
 pub returns : goal.returns
 returns c =
     let f = c.ranges.difference in
-    let v : c.half-up.result ≡ floor_half (c.args.difference +ℤ pos 1) = simp to_z-of_z at c.half-up.ensures in
-    let b = half_abs c.args.difference c.half-up.result v in
+    let v : c.half_up.result ≡ floor_half (c.args.difference +ℤ pos 1) = simp to_z-of_z at c.half_up.ensures in
+    let b = half_abs c.args.difference c.half_up.result v in
     record { first = omega (arith, ints) ∙ ap (λ x. c.args.low +ℤ x) v; second = omega (arith, ints) ∙ ap (λ x. (c.args.low +ℤ x) -ℤ c.args.difference) v }

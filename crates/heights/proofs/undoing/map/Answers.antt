@@ -5,8 +5,8 @@ use Rattle.transform.specs.Transform.{undone}
 use Rattle.heights.proofs.Drawing.{filled_more, filled_all, not_drawn}
 use Rattle.heights.proofs.undoing.map.Goals as goal
 
-pub undone-at-requires : goal.undone-at-requires
-undone-at-requires g c =
+pub undone_at-requires : goal.undone_at-requires
+undone_at-requires g c =
     let m : ℕ = (g.G.CoefficientGrid.shaped c.args.grid.now).exponent in
     let s : c.side-side.result ≡ 2 ^ m = c.side-side.ensures.value ∙ ap (λ x. 2 ^ x.exponent) c.shape-shape.ensures in
     let a : c.area-area.result ≡ 4 ^ m = c.area-area.ensures.value ∙ ap (λ x. 4 ^ x.exponent) c.shape-shape.ensures in
@@ -24,7 +24,7 @@ pub loop-p-preserved : goal.loop-p-preserved
 loop-p-preserved g c =
     let m : ℕ = (g.G.CoefficientGrid.shaped c.args.grid.now).exponent in
     let s : c.side-side.result ≡ 2 ^ m = c.side-side.ensures.value ∙ ap (λ x. 2 ^ x.exponent) c.shape-shape.ensures in
-    filled_more m _ _ c.loop-p.out c.loop-p.p c.undone-at.result (search rules) (omega arith) c.loop-p.invariant (rw s at c.undone-at.ensures.value)
+    filled_more m _ _ c.loop-p.out c.loop-p.p c.undone_at.result (search rules) (omega arith) c.loop-p.invariant (rw s at c.undone_at.ensures.value)
 
 pub returns : goal.returns
 returns g c =

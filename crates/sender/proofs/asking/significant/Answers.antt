@@ -13,7 +13,7 @@ returns-in-Block g c =
     let d = g.G.Ground.grid c.args.ground.now in
     let b = c.in-Block in
     let p = subst (InPlace h.shape.exponent) b.is c.requires.place in
-    same_yes _ _ _ c.block-reaches.ensures (block_tells_exactly h.shape.exponent d c.args.plane b.side b.row b.column p c.requires.plane) ∙ ap (significant d c.args.plane) (sym b.is)
+    same_yes _ _ _ c.block_reaches.ensures (block_tells_exactly h.shape.exponent d c.args.plane b.side b.row b.column p c.requires.plane) ∙ ap (significant d c.args.plane) (sym b.is)
 
 pub returns-in-Rest : goal.returns-in-Rest
 returns-in-Rest g c =
@@ -22,4 +22,4 @@ returns-in-Rest g c =
     let b = c.in-Rest in
     let p = subst (InPlace h.shape.exponent) b.is c.requires.place in
     let w = one_shl b.side 64 (omega (arith, h.shape.small)) in
-    same_yes _ _ _ (subst (λ v. Exactly c.rest-reaches.result (RestTells h.shape.exponent d v c.args.plane)) w c.rest-reaches.ensures) (rest_part_exactly h.shape.exponent d c.args.plane b.deeper b.side p c.requires.plane) ∙ ap (significant d c.args.plane) (sym b.is)
+    same_yes _ _ _ (subst (λ v. Exactly c.rest_reaches.result (RestTells h.shape.exponent d v c.args.plane)) w c.rest_reaches.ensures) (rest_part_exactly h.shape.exponent d c.args.plane b.deeper b.side p c.requires.plane) ∙ ap (significant d c.args.plane) (sym b.is)

@@ -50,8 +50,8 @@ loop-i-init g c =
 pub answer-requires : goal.answer-requires
 answer-requires g c = asks_about (g.G.Ground.headed c.args.ground.now) c.loop-i.walk c.loop-i.invariant.bits (asks c.question.result) c.question.ensures.machine c.loop-i.invariant.follows
 
-pub returns-in-default : goal.returns-in-default
-returns-in-default g c =
+pub returns-in_default : goal.returns-in_default
+returns-in_default g c =
     let x = c.args.ground.now in
     let h = g.G.Ground.headed x in
     let d = g.G.Ground.grid x in
@@ -59,7 +59,7 @@ returns-in-default g c =
     let old = c.args.out.now in
     let f = c.in_ok-admit.ensures.0 in
     let n = c.question.ensures.next _ _ _ v.bits d v.follows (shape_headed h.shape h.planes d (g.met.G.Ground.counted x)) v.begins in
-    let e = told_none d (asks c.question.result) v.bits (survey_of h d) c.in-default.ensures n in
+    let e = told_none d (asks c.question.result) v.bits (survey_of h d) c.in_default.ensures n in
     record {
       sends = finish_all v.bits (survey_of h d) c.args.slot c.loop-i.i old c.loop-i.out f (room_for c.args.slot old f) v.count (omega arith) e v.written;
       of_the_frame = sends_frame h d (g.met.G.Ground.counted x);

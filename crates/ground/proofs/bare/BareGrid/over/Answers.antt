@@ -4,10 +4,10 @@ use Rattle.heights.specs.Coefficients.{coefficients_of}
 use Rattle.transform.specs.Planes.{PlaneCount}
 use Rattle.ground.proofs.bare.BareGrid.over.Goals as goal
 
-pub invariant-of-result : goal.invariant-of-result
-invariant-of-result c =
+pub invariant_of-result : goal.invariant_of-result
+invariant_of-result c =
     let k = c.args.coefficients in
     let h = c.head-head.result in
     let e = ap (λ (s : Shape). s.exponent) c.head-head.ensures.shape in
     let p : PlaneCount h.shape.exponent (coefficients_of k) h.planes = subst (λ m. PlaneCount m (coefficients_of k) h.planes) (sym e) c.head-head.ensures.planes in
-    (e, (p.enough, (p.least, tt)))
+    record { sized = e; enough = p.enough; least = p.least }

@@ -5,10 +5,10 @@ use Rattle.head.specs.declared.Shape.{Shape}
 use Rattle.ground.proofs.Parts.{outside_below, outside_either, rest_none}
 use Rattle.ground.proofs.bare.BareGridGround.rest_reaches.Goals as goal
 
-pub returns-in-default : goal.returns-in-default
-returns-in-default c =
+pub returns-in_default : goal.returns-in_default
+returns-in_default c =
     let e = ap (λ (s : Shape). s.exponent) c.shape.ensures in
-    (λ f. absurd (false≢true f), λ t. absurd (rest_none _ _ c.args.inner c.args.plane (λ x h p. c.in-default.ensures x (omega arith) p) t))
+    (λ f. absurd (false≢true f), λ t. absurd (rest_none _ _ c.args.inner c.args.plane (λ x h p. c.in_default.ensures x (omega arith) p) t))
 
 -- the square is smaller than the grid
 inner_small : (c : goal.After-side-side) → c.args.inner < c.side-side.result

@@ -11,19 +11,19 @@ use Rattle.ground.proofs.Parts.{side_below}
 use Rattle.ground.proofs.peak.PeakGridGround.block_reaches.Goals as goal
 
 -- the block lies in its place
-placed : (c : goal.Else-not-in-place) → InPlace c.args.self.now.bare.head.shape.exponent (Block c.args.side c.args.row c.args.column)
+placed : (c : goal.Else-not-in_place) → InPlace c.args.self.now.bare.head.shape.exponent (Block c.args.side c.args.row c.args.column)
 placed c =
     let x = ap (λ (s : Shape). s.exponent) c.shape.ensures ∙ ap (λ (h : Head). h.shape.exponent) c.head.ensures in
-    subst (λ m. InPlace m (Block c.args.side c.args.row c.args.column)) x (c.in-place.ensures.0 c.if-not-in-place.false)
+    subst (λ m. InPlace m (Block c.args.side c.args.row c.args.column)) x (c.in_place.ensures.0 c.if-not-in_place.false)
 
-side_in : (c : goal.Else-not-in-place) → c.args.side ≤ c.args.self.now.bare.head.shape.exponent
+side_in : (c : goal.Else-not-in_place) → c.args.side ≤ c.args.self.now.bare.head.shape.exponent
 side_in c = side_below _ c.args.side c.args.row c.args.column (placed c)
 
-pub overflow-shr-row : goal.overflow-shr-row
-overflow-shr-row c = omega (arith, side_in c, c.args.self.now.bare.head.shape.small)
+pub overflow_shr-row : goal.overflow_shr-row
+overflow_shr-row c = omega (arith, side_in c, c.args.self.now.bare.head.shape.small)
 
-pub overflow-shr-column : goal.overflow-shr-column
-overflow-shr-column c = omega (arith, side_in c, c.args.self.now.bare.head.shape.small)
+pub overflow_shr-column : goal.overflow_shr-column
+overflow_shr-column c = omega (arith, side_in c, c.args.self.now.bare.head.shape.small)
 
 pub look-requires : goal.look-requires
 look-requires c = record { tree = place_tree _ c.args.side c.args.row c.args.column (placed c) (side_in c); plane = omega arith }
@@ -31,7 +31,7 @@ look-requires c = record { tree = place_tree _ c.args.side c.args.row c.args.col
 pub returns : goal.returns
 returns c =
     let x = ap (λ (s : Shape). s.exponent) c.shape.ensures ∙ ap (λ (h : Head). h.shape.exponent) c.head.ensures in
-    let at = subst (λ m. InPlace m (Block c.args.side c.args.row c.args.column)) x (c.in-place.ensures.0 c.if-not-in-place.false) in
+    let at = subst (λ m. InPlace m (Block c.args.side c.args.row c.args.column)) x (c.in_place.ensures.0 c.if-not-in_place.false) in
     let p = c.args.self.now.bare in
     let g = coefficients_of p.coefficients in
     let s = c.args.side in

@@ -11,4 +11,4 @@ returns-then-self c =
 pub returns-else-self : goal.returns-else-self
 returns-else-self c =
     let l = c.args.self.now in
-    record { state = c.next-plane.ensures.state ∙ turn_end l.plane l.at l.kept l.waiting.items (cells_of l) (omega (arith, c.requires.sound.position)) c.requires.sound.known; good = c.next-plane.ensures.good }
+    record { state = c.next_plane.ensures.state ∙ turn_end l.plane l.at l.kept l.waiting.items (cells_of l) (omega (arith, c.requires.sound.position)) c.requires.sound.known; good = c.next_plane.ensures.good }

@@ -9,12 +9,12 @@ loop-i-init c = (omega arith, pass_none (has_side c.args.side) c.args.parts.now 
 
 pub put-requires : goal.put-requires
 put-requires c =
-    pass_room (has_side c.args.side) c.args.parts.now c.loop-i.i _ (pile_of c.loop-i.self) (pile_of c.args.self.now) (room_of c.loop-i.self) c.loop-i-test.true c.loop-i.invariant.0 c.loop-i.invariant.1 (sym c.if-has-side.ensures) (omega (arith, c.requires.room, c.loop-i.invariant.2))
+    pass_room (has_side c.args.side) c.args.parts.now c.loop-i.i _ (pile_of c.loop-i.self) (pile_of c.args.self.now) (room_of c.loop-i.self) c.loop-i-test.true c.loop-i.invariant.0 c.loop-i.invariant.1 (sym c.if-has_side.ensures) (omega (arith, c.requires.room, c.loop-i.invariant.2))
 
-pub loop-i-preserved-then-has-side : goal.loop-i-preserved-then-has-side
-loop-i-preserved-then-has-side c =
-    (omega (arith, c.loop-i.invariant.0), pass_in (has_side c.args.side) c.args.parts.now c.loop-i.i _ (pile_of c.loop-i.self) (pile_of c.put.new.self) (pile_of c.args.self.now) c.loop-i-test.true c.loop-i.invariant.0 c.loop-i.invariant.1 c.put.ensures.list (sym c.if-has-side.ensures), c.put.ensures.room ∙ c.loop-i.invariant.2)
+pub loop-i-preserved-then-has_side : goal.loop-i-preserved-then-has_side
+loop-i-preserved-then-has_side c =
+    (omega (arith, c.loop-i.invariant.0), pass_in (has_side c.args.side) c.args.parts.now c.loop-i.i _ (pile_of c.loop-i.self) (pile_of c.put.new.self) (pile_of c.args.self.now) c.loop-i-test.true c.loop-i.invariant.0 c.loop-i.invariant.1 c.put.ensures.list (sym c.if-has_side.ensures), c.put.ensures.room ∙ c.loop-i.invariant.2)
 
 pub loop-i-preserved : goal.loop-i-preserved
 loop-i-preserved c =
-    (omega (arith, c.loop-i.invariant.0), pass_out (has_side c.args.side) c.args.parts.now c.loop-i.i _ (pile_of c.loop-i.self) (pile_of c.args.self.now) c.loop-i-test.true c.loop-i.invariant.0 c.loop-i.invariant.1 (sym c.if-has-side.ensures), c.loop-i.invariant.2)
+    (omega (arith, c.loop-i.invariant.0), pass_out (has_side c.args.side) c.args.parts.now c.loop-i.i _ (pile_of c.loop-i.self) (pile_of c.args.self.now) c.loop-i-test.true c.loop-i.invariant.0 c.loop-i.invariant.1 (sym c.if-has_side.ensures), c.loop-i.invariant.2)
