@@ -5,7 +5,7 @@ ghost use Rattle.transform.specs.Planes.{BelowPlanes};
 ghost use Rattle.transform.specs.Transform.{grid_of};
 ghost use Rattle.ground.specs.Frames.{GroundOf};
 ghost use Rattle.ground.specs.Tells.{Exactly, InRectangle, Reaches, SomeReach};
-ghost use Rattle.std.proofs.Common.{rules, arith};
+ghost use Rattle.std.proofs.Common.{rules};
 
 use crate::questions::{extent, in_place, inner_exponent};
 use crate::{Ground, TOP_PLANE};
@@ -108,7 +108,7 @@ impl Ground for BareGrid {
 
     ghost grid = { λ b. coefficients_of b.coefficients };
 
-    ghost counted = { first_of (Prim.search rules, Prim.grind (arith, Self.row.coded.inj)) };
+    ghost counted = { Prim.search rules };
 
     fn head(&self) -> Head {
         self.head

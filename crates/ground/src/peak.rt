@@ -6,7 +6,7 @@ ghost use Rattle.heights.specs.Coefficients.{coefficients_of};
 ghost use Rattle.transform.specs.Transform.{grid_of};
 ghost use Rattle.ground.specs.Frames.{GroundOf};
 ghost use Rattle.ground.specs.Peaks.{Filled, InTree, Node, Right, above, peak_of, place_at};
-ghost use Rattle.std.proofs.Common.{rules, arith};
+ghost use Rattle.std.proofs.Common.{rules};
 
 use crate::bare::BareGrid;
 use crate::questions::{extent, in_place, inner_exponent};
@@ -139,7 +139,7 @@ impl Ground for PeakGrid {
 
     ghost grid = { λ p. coefficients_of p.bare.coefficients };
 
-    ghost counted = { first_of (Prim.search rules, Prim.grind (arith, Self.row.coded.inj)) };
+    ghost counted = { Prim.search rules };
 
     fn head(&self) -> Head {
         self.bare.head()

@@ -1,6 +1,6 @@
 ghost use Rattle.std.specs.Prelude.{◌≡◌};
 ghost use Rattle.heights.specs.Coefficients.{coefficients_of};
-ghost use Rattle.std.proofs.Common.{rules, arith};
+ghost use Rattle.std.proofs.Common.{rules};
 
 use super::*;
 use crate::undoing::CoefficientGrid;
@@ -10,7 +10,7 @@ impl CoefficientGrid for Coefficients {
 
     ghost coefs = { coefficients_of };
 
-    ghost small = { first_of (Prim.search rules, Prim.grind (arith, Self.row.coded.inj)) };
+    ghost small = { Prim.search rules };
 
     fn shape(&self) -> Shape {
         self.shape

@@ -72,10 +72,10 @@ fn differences_at<G: CoefficientGrid>(
     row: usize,
     column: usize,
 ) -> Differences
-    requires inner { 2 * half ≤ 2 ^ (shaped grid.now).exponent }
+    requires inner { 2 * half ≤ 2 ^ (G.shaped grid.now).exponent }
     requires row_in { row < 2 * half }
     requires column_in { column < 2 * half }
-    ensures { DifferencesAt half (coefs grid.now) row column result }
+    ensures { DifferencesAt half (G.coefs grid.now) row column result }
 {
     let below = grid.coefficient(half + row / 2, column / 2);
     let beside = grid.coefficient(row / 2, half + column / 2);
@@ -89,11 +89,11 @@ fn differences_at<G: CoefficientGrid>(
 
 // One cell of a square whose half side is `half`, from the low above it and the differences of its block.
 fn finer<G: CoefficientGrid>(grid: &G, half: usize, row: usize, column: usize, low: i32) -> i32
-    requires inner { 2 * half ≤ 2 ^ (shaped grid.now).exponent }
+    requires inner { 2 * half ≤ 2 ^ (G.shaped grid.now).exponent }
     requires row_in { row < 2 * half }
     requires column_in { column < 2 * half }
     requires low_small { unsigned_abs low ≤ 262144 }
-    ensures value { result ≡ block_of half (coefs grid.now) low row column }
+    ensures value { result ≡ block_of half (G.coefs grid.now) low row column }
     ensures small { unsigned_abs result ≤ unsigned_abs low + 40960 }
 {
     let block = differences_at(grid, half, row, column);
@@ -104,9 +104,9 @@ fn finer<G: CoefficientGrid>(grid: &G, half: usize, row: usize, column: usize, l
 
 // The height of a cell of the map: from the coarsest square that it lies in, down to the cell.
 fn undone_at<G: CoefficientGrid>(grid: &G, row: usize, column: usize) -> i32
-    requires row_in { row < 2 ^ (shaped grid.now).exponent }
-    requires column_in { column < 2 ^ (shaped grid.now).exponent }
-    ensures value { result ≡ undone (shaped grid.now).exponent (shaped grid.now).levels (coefs grid.now) row column }
+    requires row_in { row < 2 ^ (G.shaped grid.now).exponent }
+    requires column_in { column < 2 ^ (G.shaped grid.now).exponent }
+    ensures value { result ≡ undone (G.shaped grid.now).exponent (G.shaped grid.now).levels (G.coefs grid.now) row column }
     ensures small { unsigned_abs result ≤ 278527 }
 {
     let shape = grid.shape();
@@ -120,7 +120,7 @@ fn undone_at<G: CoefficientGrid>(grid: &G, row: usize, column: usize) -> i32
 
 // The height of one cell.
 pub fn height<G: CoefficientGrid>(grid: &G, row: usize, column: usize) -> Result<i32, ReadFault>
-    ensures { Answers result (if inside (shaped grid.now).exponent row column then None else Some Cell) (λ h. (h ≡ undone (shaped grid.now).exponent (shaped grid.now).levels (coefs grid.now) row column) × (unsigned_abs h ≤ 278527)) }
+    ensures { Answers result (if inside (G.shaped grid.now).exponent row column then None else Some Cell) (λ h. (h ≡ undone (G.shaped grid.now).exponent (G.shaped grid.now).levels (G.coefs grid.now) row column) × (unsigned_abs h ≤ 278527)) }
 {
     let side = grid.shape().side();
     if row >= side || column >= side {
@@ -131,8 +131,8 @@ pub fn height<G: CoefficientGrid>(grid: &G, row: usize, column: usize) -> Result
 
 // All heights in row order, into the front of a buffer.
 pub fn map<G: CoefficientGrid>(grid: &G, out: &mut [i32]) -> Result<(), ReadFault>
-    ensures answer { Answers result (if nat_le (4 ^ (shaped grid.now).exponent) (length out.old) then None else Some Buffer) (λ _. Unit {0}) }
-    ensures heights { (p : ℕ) → slice_index_or out.new p (pos 0) ≡ drawn (shaped grid.now).exponent (undone (shaped grid.now).exponent (shaped grid.now).levels (coefs grid.now)) out.old p }
+    ensures answer { Answers result (if nat_le (4 ^ (G.shaped grid.now).exponent) (length out.old) then None else Some Buffer) (λ _. Unit {0}) }
+    ensures heights { (p : ℕ) → slice_index_or out.new p (pos 0) ≡ drawn (G.shaped grid.now).exponent (undone (G.shaped grid.now).exponent (G.shaped grid.now).levels (G.coefs grid.now)) out.old p }
 {
     let shape = grid.shape();
     let area = shape.area();

@@ -10,9 +10,9 @@ use walk::Question;
 
 // Whether a part of the grid is significant.
 fn significant<G: Ground>(ground: &G, part: Part, plane: u8) -> bool
-    requires place { InPlace (headed ground.now).shape.exponent part }
+    requires place { InPlace (G.headed ground.now).shape.exponent part }
     requires plane { plane ≤ 14 }
-    ensures { result ≡ significantPart (grid ground.now) plane part }
+    ensures { result ≡ significantPart (G.grid ground.now) plane part }
 {
     match part {
         Part::Block { side, row, column } => ground.block_reaches(
@@ -27,8 +27,8 @@ fn significant<G: Ground>(ground: &G, part: Part, plane: u8) -> bool
 
 // What a ground answers to a question about its grid; nothing where nothing is asked.
 pub(crate) fn answer<G: Ground>(ground: &G, question: Question) -> Option<bool>
-    requires { AboutGrid (headed ground.now).shape.exponent (headed ground.now).planes (asks question) }
-    ensures { result ≡ told (grid ground.now) (asks question) }
+    requires { AboutGrid (G.headed ground.now).shape.exponent (G.headed ground.now).planes (asks question) }
+    ensures { result ≡ told (G.grid ground.now) (asks question) }
 {
     match question {
         Question::Significant { plane, part } => Some(significant(ground, part, plane)),

@@ -29,9 +29,9 @@ pub fn send<G: Ground>(
     out: &mut [u8],
     heap: Global,
 ) -> Result<usize, SendFault>
-    ensures sends { Sends (survey_of (headed ground.now) (grid ground.now)) slot out.old out.new result }
-    ensures of_the_frame { SendsFrame (headed ground.now) (grid ground.now) }
-    ensures never_longer { length (survey_of (headed ground.now) (grid ground.now)) ≤ 86101 }
+    ensures sends { Sends (survey_of (G.headed ground.now) (G.grid ground.now)) slot out.old out.new result }
+    ensures of_the_frame { SendsFrame (G.headed ground.now) (G.grid ground.now) }
+    ensures never_longer { length (survey_of (G.headed ground.now) (G.grid ground.now)) ≤ 86101 }
 {
     admit(slot, out)?;
     let mut walk = Walk::open(ground.head(), heap)?;

@@ -3,8 +3,8 @@ use Rattle.std.proofs.lemmas.Bool.{both_ways, cases_lt}
 use Rattle.ground.proofs.Searching.{found, row_end, unfound}
 use Rattle.ground.proofs.bare.rectangle_reaches.Goals as goal
 
-pub slice-bounds-some_reach-end : goal.slice-bounds-some_reach-end
-slice-bounds-some_reach-end c =
+pub slice_bounds-some_reach-end : goal.slice_bounds-some_reach-end
+slice_bounds-some_reach-end c =
     let e = row_end c.args.shape.exponent c.side-side.result c.loop-row.row c.args.cells.right _ c.side-side.ensures.value c.requires.whole (omega arith) (omega arith) in
     omega arith
 

@@ -12,7 +12,7 @@ returns-then-side-eq0 t c =
     let v = c.magnitude-peak.result in
     record {
       value = c.magnitude-peak.ensures ∙ sym (peak_cell g c.args.side c.args.row c.args.column c.if-side-eq0.true);
-      filled = subst (λ p. Filled m g c.args.side c.args.row c.args.column peaks (set peaks p v)) (sym c.place_at.ensures.value)
+      filled = subst (λ p. Filled m g c.args.side c.args.row c.args.column peaks (set peaks p v)) (sym c.place-at.ensures.value)
           (filled_cell m g c.args.side c.args.row c.args.column peaks v c.requires.tree c.requires.room c.if-side-eq0.true c.magnitude-peak.ensures);
     }
 
@@ -42,7 +42,7 @@ returns t c =
     ∙ peak_more g s (s - 1) i j _ _ _ _ e c.fill-a.ensures.value c.fill-b.ensures.value c.fill-c.ensures.value c.fill-d.ensures.value in
     record {
       value = is;
-      filled = subst (λ p. Filled m g s i j c.args.peaks.now (set c.fill-d.new.peaks p v)) (sym c.place_at.ensures.value)
+      filled = subst (λ p. Filled m g s i j c.args.peaks.now (set c.fill-d.new.peaks p v)) (sym c.place-at.ensures.value)
           (filled_block m g s (s - 1) i j c.args.peaks.now c.fill-a.new.peaks c.fill-b.new.peaks c.fill-c.new.peaks c.fill-d.new.peaks v c.requires.tree (omega (arith, c.requires.room)) e is
           c.fill-a.ensures.filled c.fill-b.ensures.filled c.fill-c.ensures.filled c.fill-d.ensures.filled);
     }

@@ -15,7 +15,7 @@ returns-in_err-admit g c =
     let h = g.G.Ground.headed x in
     let d = g.G.Ground.grid x in
     let old = c.args.out.now in
-    let p = err_from_is_err_and c.from-residual.result c.from-residual.ensures.1 in
+    let p = err_from_is_err_and c.from_residual.result c.from_residual.ensures.1 in
     record {
       sends = subst (Sends (survey_of h d) c.args.slot old old) (sym (p.1 ∙ ap Err p.2)) (refused (survey_of h d) c.args.slot old _ c.in_err-admit.ensures);
       of_the_frame = sends_frame h d (g.met.G.Ground.counted x);
@@ -28,7 +28,7 @@ returns-in_err-walk g c =
     let h = g.G.Ground.headed x in
     let d = g.G.Ground.grid x in
     let old = c.args.out.now in
-    let p = err_from_is_err_and c.from-residual-in_err-walk.result c.from-residual-in_err-walk.ensures.1 in
+    let p = err_from_is_err_and c.from_residual-in_err-walk.result c.from_residual-in_err-walk.ensures.1 in
     record {
       sends = subst (Sends (survey_of h d) c.args.slot old old) (sym (p.1 ∙ ap Err p.2)) (c.in_ok-admit.ensures.0, refl);
       of_the_frame = sends_frame h d (g.met.G.Ground.counted x);

@@ -22,7 +22,7 @@ returns-then-ring_reaches c =
     let h : k < m = omega (arith, x, c.in-Some.ensures.0) in
     let s : c.loop-side.side < m = omega (arith, x, c.exponent-side-end.ensures) in
     let y = looked_found g c.args.plane m k c.loop-side.side (omega arith) s c.loop-side.invariant (sym c.ring_reaches.ensures ∙ c.if-ring_reaches.true) in
-    (λ e. (rest_tells_exactly m g c.args.plane k c.args.inner h c.in-Some.ensures.1 c.if-plane-gt-TOP-PLANE.false).0 y, λ t. refl)
+    (λ e. (rest_tells_exactly m g c.args.plane k c.args.inner h c.in-Some.ensures.1 c.if-plane-gt-TOP_PLANE.false).0 y, λ t. refl)
 
 pub loop-side-preserved : goal.loop-side-preserved
 loop-side-preserved c = looked_more (coefficients_of c.args.self.now.bare.coefficients) c.args.plane c.in-Some.exponent c.loop-side.side c.loop-side.invariant (sym c.ring_reaches.ensures ∙ c.if-ring_reaches.false)
@@ -37,4 +37,4 @@ returns c =
     let h : k < m = omega (arith, x, c.in-Some.ensures.0) in
     let s : c.loop-side.side ≡ m = omega (arith, x, c.exponent-side-end.ensures) in
     let none = looked_all g c.args.plane m k c.loop-side.side (omega arith) s c.loop-side.invariant in
-    (λ e. absurd (false≢true e), λ t. absurd (both_ways _ none ((rest_tells_exactly m g c.args.plane k c.args.inner h c.in-Some.ensures.1 c.if-plane-gt-TOP-PLANE.false).1 t)))
+    (λ e. absurd (false≢true e), λ t. absurd (both_ways _ none ((rest_tells_exactly m g c.args.plane k c.args.inner h c.in-Some.ensures.1 c.if-plane-gt-TOP_PLANE.false).1 t)))
