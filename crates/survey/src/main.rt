@@ -7,6 +7,7 @@ mod reading;
 use faults::Fault;
 use heights::Coefficients;
 use std::io::Read;
+use std::process::ExitCode;
 
 fn read_input(rt: &HostRuntime) -> Result<Vec<u8>, Fault> {
     let mut bytes = Vec::new(rt.alloc());
@@ -28,12 +29,12 @@ fn survey(rt: &HostRuntime) -> Result<(), Fault> {
     }
 }
 
-fn main(rt: HostRuntime) -> Result<(), Fault> {
+fn main(rt: HostRuntime) -> ExitCode {
     match survey(&rt) {
-        Ok(()) => Ok(()),
+        Ok(()) => ExitCode::SUCCESS,
         Err(fault) => {
             let _ = eprintln!(rt; "{fault}");
-            Err(fault)
+            ExitCode::FAILURE
         }
     }
 }
