@@ -1,5 +1,6 @@
 // Times the boom's work on one stack. With an argument, each phase is run so many times, and the fastest is said on standard error in nanoseconds.
 #![tactic(auto)]
+
 mod clock;
 mod reading;
 

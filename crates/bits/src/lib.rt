@@ -1,5 +1,6 @@
 // Bits in bytes, the highest bit of a byte first.
 #![tactic(auto)]
+
 ghost use Rattle.std.specs.Prelude.{◌≡◌, ℕ, ◌*◌, ◌<◌, Bool, List, [], ◌∷◌, ◌++◌, length, nat_le, nat_lt};
 ghost use Rattle.bits.specs.Bits.{Packs, Written, bit_at, marked};
 

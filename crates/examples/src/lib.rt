@@ -1,5 +1,6 @@
 // Examples worked by hand: as one table on the definitions, and the first of them made by the code.
 #![tactic(auto)]
+
 ghost use Rattle.std.specs.Prelude.{◌≡◌, IfOk};
 ghost use Rattle.heights.specs.Coefficients.{coefficients_of};
 ghost use Rattle.transform.specs.Transform.{On};

@@ -1,5 +1,6 @@
 // Frames of heights: open while cells are told, closed for good afterwards.
 #![tactic(auto)]
+
 ghost use Rattle.std.specs.Prelude.{◌≡◌, ℕ, ◌^◌, true, None, vec_len, slice_index_or};
 ghost use Rattle.frame.specs.Cells.{may_stand};
 

@@ -1,5 +1,6 @@
 // Grounds: what answers the sender's questions about a grid of coefficients.
 #![tactic(auto)]
+
 ghost use Rattle.std.specs.Prelude.{◌≡◌, ℕ, ℤ};
 ghost use Rattle.head.specs.declared.Head.{Head};
 ghost use Rattle.transform.specs.Planes.{PlaneCount};

@@ -1,5 +1,6 @@
 // The shape of a map, the head of its survey, and what calls refuse.
 #![tactic(auto)]
+
 ghost use Rattle.std.specs.Prelude.{◌≤◌};
 
 mod bytes;

@@ -1,5 +1,6 @@
 // From a closed frame to its coefficients and back, and what may be said of the way.
 #![tactic(auto)]
+
 ghost use Rattle.std.specs.Prelude.{◌≡◌, ℕ, ◌^◌, ◌<◌, pos, vec_len, slice_index_or, unsigned_abs};
 
 use head::Shape;

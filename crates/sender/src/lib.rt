@@ -1,5 +1,6 @@
 // Sending the survey of a ground, bit by bit.
 #![tactic(auto)]
+
 ghost use Rattle.std.specs.Prelude.{◌≡◌};
 ghost use Rattle.sender.specs.Refusals.{refusal_of};
 ghost use Rattle.sender.specs.declared.SendFault.TheVariants.{Memory};

@@ -4,7 +4,7 @@ use Rattle.speck.specs.declared.Part.{Part}
 use Rattle.speck.specs.declared.Part.TheVariants.{Block}
 use Rattle.speck.specs.Grid.{View, cell, parts, view, inside, coverage, square}
 use Rattle.speck.specs.Survey.{Found, arranged, refined}
-use Rattle.speck.specs.Machine.{State, owing, asking, sign, refinement, finished, refine_on_by, go_on_by, enter_plane, go_on, unfolded, step, Next, going, contradiction, surplus, run, feed, start}
+use Rattle.speck.specs.Machine.{State, owing, asking, sign, refinement, finished, refine_on_by, go_on_by, enter_plane, unfolded, step, Next, going, contradiction, surplus, run, feed, start}
 use Rattle.speck.proofs.Lists.{coverage_append, coverage_arrange}
 use Rattle.speck.proofs.Geometry.{Made, made, whole}
 

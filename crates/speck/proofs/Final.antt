@@ -4,7 +4,7 @@ use Rattle.std.proofs.lemmas.Bool.{cases_lt, false≢true, and_parts, and_from, 
 use Rattle.speck.specs.declared.Part.{Part}
 use Rattle.speck.specs.declared.Part.TheVariants.{Block}
 use Rattle.speck.specs.Grid.{Grid, magnitude, signed, upper, inside, coverage}
-use Rattle.speck.specs.Survey.{Found, refined}
+use Rattle.speck.specs.Survey.{Found}
 use Rattle.speck.specs.Machine.{State, owing, asking, sign, refinement, finished}
 use Rattle.speck.specs.Receiver.{value, is_at, lookup, known, open_planes}
 use Rattle.speck.proofs.Lists.{coverage_append}

@@ -2,7 +2,7 @@
 use Rattle.std.proofs.Common.{◌≡◌, ℕ, zero, suc, ◌<◌, List, [], ◌∷◌, ◌++◌, arith}
 use Rattle.speck.specs.declared.Part.{Part}
 use Rattle.speck.specs.Grid.{Grid, magnitude, is_negative, upper, coverage}
-use Rattle.speck.specs.Survey.{Found, arranged, refined}
+use Rattle.speck.specs.Survey.{Found, arranged}
 use Rattle.speck.specs.Machine.{State, owing, asking, sign, refinement, finished, refine_on_by, go_on_by, enter_plane}
 use Rattle.speck.proofs.Lists.{coverage_arrange}
 

@@ -5,7 +5,7 @@ use Rattle.std.proofs.lemmas.Bool.Decides.{nat_tests as tests}
 use Rattle.speck.specs.declared.Part.{Part}
 use Rattle.speck.specs.Grid.{Grid, magnitude, is_negative, upper, View, cell, parts, view, significant, inside, coverage}
 use Rattle.speck.specs.Survey.{Found, refined, odd, bit_of, digit}
-use Rattle.speck.specs.Machine.{State, owing, asking, sign, refinement, finished, ask, answer, enter_plane, go_on, unfolded, step, Next, going, contradiction, surplus}
+use Rattle.speck.specs.Machine.{State, owing, asking, sign, refinement, finished, ask, answer, enter_plane, unfolded, step, Next, going, contradiction, surplus}
 use Rattle.speck.proofs.Lists.{coverage_append}
 use Rattle.speck.proofs.Possible.{Insignificant, Significant, Fits, known_append, known_left, known_right, Base, Possible, enter_in, enter_out, turn_by_in, turn_by_out, go_by_in, go_by_out}
 use Rattle.speck.proofs.Geometry.{Made, made}

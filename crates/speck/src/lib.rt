@@ -1,5 +1,6 @@
 // The survey of a grid of coefficients, as definitions and laws (specs/ and proofs/): its rules, the question machine, and which grids are still possible after which bits.
 #![tactic(auto)]
+
 ghost use Rattle.std.specs.Prelude.{◌≡◌};
 ghost use Rattle.speck.specs.Survey.{has_side, is_rest};
 

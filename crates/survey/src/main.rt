@@ -1,5 +1,6 @@
 // Reads a stack from standard input, and prints its transform and the map undone from it.
 #![tactic(auto)]
+
 mod faults;
 mod printing;
 mod reading;

@@ -1,5 +1,6 @@
 // The integer S transform as definitions and laws (specs/ and proofs/), and the error that undoing it admits.
 #![tactic(auto)]
+
 ghost use Rattle.std.specs.Prelude.{◌≡◌, ◌≤◌, MatchOption};
 ghost use Rattle.transform.specs.Errors.{Admitted, DriftIsGrowth, bound_of, drift_of, for_planes};
 

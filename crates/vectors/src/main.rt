@@ -1,5 +1,6 @@
 // Sends many stacks by both grounds, for comparison with another implementation.
 #![tactic(auto)]
+
 mod reading;
 
 use anyhow::anyhow;

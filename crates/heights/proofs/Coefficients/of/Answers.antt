@@ -1,7 +1,6 @@
 use Rattle.std.proofs.Common.{◌≡◌, ◌^◌, map, length, vec_items, sym, ap, ◌∙◌, arith}
 use Rattle.std.proofs.lemmas.List.{with_items_is}
 use Rattle.frame.specs.Cells.{settled}
-use Rattle.transform.specs.Transform.{transform}
 use Rattle.heights.proofs.Settling.{heights_span, heights_whole, coefficients_small, coefficients_defined, coefficients_back}
 use Rattle.heights.proofs.Coefficients.of.Goals as goal
 
