@@ -4,12 +4,15 @@ ghost use Rattle.head.specs.Heads.{HeadAt, bytes_fault};
 
 use super::*;
 
+// The edition of the format, the first of the four bytes.
+const EDITION: u8 = 1;
+
 impl Head {
     // The head's four bytes: the edition, the side exponent, the levels, the planes.
     pub fn to_bytes(&self) -> [u8; 4]
         ensures { result ≡ 1 ∷ self.now.shape.exponent ∷ self.now.shape.levels ∷ self.now.planes ∷ [] }
     {
-        [1, self.shape.exponent, self.shape.levels, self.planes]
+        [EDITION, self.shape.exponent, self.shape.levels, self.planes]
     }
 
     // The head that the first four bytes write, whatever stands behind them.
@@ -17,7 +20,7 @@ impl Head {
         ensures { Answers result (bytes_fault bytes.now) (λ h. HeadAt bytes.now h) }
     {
         match bytes {
-            [1, m, k, p, ..] => Head::new(*m, *k, *p),
+            [EDITION, m, k, p, ..] => Head::new(*m, *k, *p),
             [_, m, k, p, ..] => {
                 Head::new(*m, *k, *p)?;
                 Err(HeadFault::Edition)

@@ -23,7 +23,7 @@ impl Shape {
     pub fn new(exponent: u8, levels: u8) -> Result<Shape, HeadFault>
         ensures { Answers result (shape_fault exponent levels) (λ s. (s.exponent ≡ exponent) × (s.levels ≡ levels)) }
     {
-        if exponent < 1 || exponent > 6 {
+        if !(1..=6).contains(&exponent) {
             return Err(HeadFault::Side);
         }
         if levels > exponent {
@@ -67,11 +67,7 @@ impl Shape {
         ensures inside { IfSome result (λ p. p < 4 ^ self.now.exponent) }
     {
         let side = self.side();
-        if row < side && column < side {
-            Some(row * side + column)
-        } else {
-            None
-        }
+        (row < side && column < side).then(|| row * side + column)
     }
 }
 
