@@ -2,10 +2,16 @@ use Rattle.std.specs.Prelude.{ℕ, ◌+◌, ◌*◌, ◌^◌, cond, List, ℤ, i
 use Rattle.transform.specs.Transform.{Grid}
 use Rattle.frame.specs.Cells.{in_span, settled}
 use Rattle.head.specs.Heads.{inside}
+use Rattle.frame.specs.declared.Closed.{Closed}
+use Rattle.frame.specs.declared.Frame.{Frame}
 use Rattle.frame.specs.declared.FrameFault.{FrameFault}
 use Rattle.frame.specs.declared.FrameFault.TheVariants as fault
 use Rattle.head.specs.declared.refusals.Refusal.{Refusal}
 use Rattle.head.specs.declared.refusals.Refusal.TheVariants as refusal
+
+-- a frame for good
+abbrev pub ClosedFrame : Type 0
+ClosedFrame = Frame Closed
 
 -- which refusal a fault of a frame is
 abbrev pub refusal_of : FrameFault → Refusal

@@ -1,5 +1,4 @@
 ghost use Rattle.std.specs.Prelude.{◌≡◌, ◌^◌, replicate, IfOk, Some, None};
-ghost use Rattle.frame.specs.Cells.{in_span};
 ghost use Rattle.head.specs.Faults.{Answers};
 ghost use Rattle.frame.specs.Frames.{entered, entry_fault, refusal_of};
 ghost use Rattle.frame.specs.declared.FrameFault.TheVariants.{Cell};
@@ -20,25 +19,17 @@ impl From<FrameFault> for Refusal {
     }
 }
 
-fn in_span(height: i32) -> bool
-    ensures { result ≡ in_span height }
-{
-    LOWEST <= height && height <= HIGHEST
-}
-
-impl OpenFrame {
+impl Frame<Open> {
     // A frame with no cell told. It is never refused; memory may be wanting.
     pub fn open(shape: Shape, heap: Global) -> Result<OpenFrame, AllocError>
         ensures { IfOk result (λ f. (f.shape ≡ shape) × (f.cells.items ≡ replicate (4 ^ shape.exponent) None)) }
     {
         let cells = vec![in heap; None; shape.area()]?;
-        Ok(OpenFrame { shape, cells })
-    }
-
-    pub fn shape(&self) -> Shape
-        ensures { result ≡ self.now.shape }
-    {
-        self.shape
+        Ok(Frame {
+            shape,
+            cells,
+            state: Open,
+        })
     }
 
     // Tells the height of one cell.
@@ -47,12 +38,10 @@ impl OpenFrame {
         ensures cells { self.new.cells.items ≡ entered self.old.shape.exponent self.old.cells.items row column height }
         ensures shape { self.new.shape ≡ self.old.shape }
     {
-        if !in_span(height) {
+        if !(LOWEST..=HIGHEST).contains(&height) {
             return Err(FrameFault::Height);
         }
-        let Some(place) = self.shape.place(row, column) else {
-            return Err(FrameFault::Cell);
-        };
+        let place = self.shape.place(row, column).ok_or(FrameFault::Cell)?;
         if self.cells[place].is_some() {
             return Err(FrameFault::ToldTwice);
         }
@@ -65,7 +54,11 @@ impl OpenFrame {
         ensures shape { result.shape ≡ self.shape }
         ensures cells { result.cells.items ≡ self.cells.items }
     {
-        let OpenFrame { shape, cells } = self;
-        ClosedFrame { shape, cells }
+        let Frame { shape, cells, .. } = self;
+        Frame {
+            shape,
+            cells,
+            state: Closed,
+        }
     }
 }

@@ -6,13 +6,7 @@ ghost use Rattle.frame.specs.declared.FrameFault.TheVariants.{Cell};
 
 use super::*;
 
-impl ClosedFrame {
-    pub fn shape(&self) -> Shape
-        ensures { result ≡ self.now.shape }
-    {
-        self.shape
-    }
-
+impl Frame<Closed> {
     // The told heights in row order.
     pub fn cells(&self) -> &[Option<i32>]
         ensures { result.now ≡ self.now.cells.items }
@@ -24,9 +18,7 @@ impl ClosedFrame {
     pub fn height(&self, row: usize, column: usize) -> Result<i32, FrameFault>
         ensures { Answers result (if inside self.now.shape.exponent row column then None else Some Cell) (λ h. h ≡ heights_of self.now.shape.exponent self.now.cells.items row column) }
     {
-        let Some(place) = self.shape.place(row, column) else {
-            return Err(FrameFault::Cell);
-        };
+        let place = self.shape.place(row, column).ok_or(FrameFault::Cell)?;
         Ok(self.cells[place].unwrap_or(UNTOLD))
     }
 }
