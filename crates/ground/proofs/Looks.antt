@@ -1,7 +1,7 @@
 -- A look at a block's peak tells its significance.
-use Rattle.std.proofs.Common.{◌≡◌, ℕ, zero, suc, ◌+◌, ◌-◌, ◌*◌, ◌/◌, ◌%◌, ◌^◌, ◌<◌, ◌≤◌, max, Bool, true, false, ◌||◌, ltb, leb, ◌⊎◌, [], ◌∷◌, nat_abs, sym, refl, ap, ◌∙◌, subst, inl, inr, pow-suc, div-add-mod', mul-one, add-one, arith, pow_pos, pow-add}
+use Rattle.std.proofs.Common.{◌↔◌, IsTrue, ◌≡◌, ℕ, zero, suc, ◌+◌, ◌-◌, ◌*◌, ◌/◌, ◌%◌, ◌^◌, ◌<◌, ◌≤◌, max, Bool, true, false, ◌||◌, ltb, leb, ◌⊎◌, [], ◌∷◌, nat_abs, sym, refl, ap, ◌∙◌, subst, inl, inr, pow-suc, div-add-mod', mul-one, arith, pow_pos, pow-add}
 use Rattle.std.proofs.lemmas.Nat.{div_below}
-use Rattle.std.proofs.lemmas.Bool.{cases_lt, le-leb, lt-leb, lt-ltb, le-ltb}
+use Rattle.std.proofs.lemmas.Bool.{cases_lt, false≢true, le-leb, lt-leb, lt-ltb, le-ltb}
 use Rattle.std.proofs.lemmas.Bool.Decides.{nat_tests}
 use Rattle.speck.specs.declared.Part.TheVariants.{Block, Rest}
 use Rattle.speck.specs.Grid.{Grid, any_significant, outside, significant, upper}
@@ -10,8 +10,9 @@ use Rattle.speck.proofs.Consequences.{by_parts}
 use Rattle.speck.proofs.Geometry.{significant_by, significant_one_cell}
 use Rattle.speck.proofs.Upper.{none_upper, some_upper}
 use Rattle.ground.specs.Peaks.{InTree, peak_of}
-use Rattle.ground.specs.Tells.{BlockTells, Exactly, RestTells}
+use Rattle.ground.specs.Tells.{BlockTells, RestTells}
 use Rattle.ground.proofs.Parts.{block_exactly, rest_exactly}
+use Rattle.ground.proofs.Ranges.{Within}
 
 cell_look : (n x : ℕ) → ltb 0 (upper n x) ≡ leb (2 ^ n) x
 cell_look n x = by (cases_lt x (2 ^ n))
@@ -72,6 +73,10 @@ ring_tree m s i j h p q =
 abbrev pub ring : Grid → ℕ → ℕ → Bool
 ring g n s = any_significant g n (Block s 0 (2 ^ s) ∷ Block s (2 ^ s) 0 ∷ Block s (2 ^ s) (2 ^ s) ∷ [])
 
+or_true : (a : Bool) {b : Bool} → b ≡ true → (a || b) ≡ true
+or_true true e = refl
+or_true false e = e
+
 -- a rest is its ring and the rest beyond
 or_none : (a b c d : Bool) → ((a || (b || (c || d))) || false) ≡ ((a || (b || (c || false))) || d)
 or_none true b c d = refl
@@ -85,38 +90,41 @@ outside_more g n d s =
     ap (λ b. b || false) (significant_by g n (Rest d s))
     ∙ or_none (significant g n (Block s 0 (2 ^ s))) (significant g n (Block s (2 ^ s) 0)) (significant g n (Block s (2 ^ s) (2 ^ s))) (any_significant g n (outside d (suc s)))
 
--- the parts outside a square, so far as the rings from side 2^x on below side 2^s were looked at
-abbrev pub Looked : Grid → ℕ → ℕ → ℕ → Type 0
-Looked g n x s = (d e : ℕ) → x + d ≡ s + e → any_significant g n (outside d x) ≡ any_significant g n (outside e s)
+-- some part outside a square of side 2^x is significant, if a ring from there up to side 2^e is
+pub rings_tell : (g : Grid) (n d x e : ℕ) → x + d ≡ e → Within x e (λ s. ring g n s ≡ true) ↔ IsTrue (any_significant g n (outside d x))
+rings_tell g n zero x e h = (λ (s, a, b, r). absurd (omega arith), λ f. absurd (false≢true f))
+rings_tell g n (suc d) x e h =
+    let more = outside_more g n d x in
+    let beyond = rings_tell g n d (suc x) e (omega arith) in
+    (λ (s, a, b, r). more ∙ here beyond s a b r (cases_lt x s), λ y. apart beyond (ring g n x) refl (sym more ∙ y))
+  where
+    rest : Bool
+    rest = any_significant g n (outside d (suc x))
 
-pub looked_more : (g : Grid) (n x s : ℕ) → Looked g n x s → ring g n s ≡ false → Looked g n x (s + 1)
-looked_more g n x s l r d e h =
-    l d (suc e) (omega arith) ∙ (outside_more g n e s ∙ (ap (λ b. b || any_significant g n (outside e (suc s))) r ∙ ap (λ k. any_significant g n (outside e k)) (sym (add-one s))))
+    here : Within (suc x) e (λ s. ring g n s ≡ true) ↔ IsTrue rest → (s : ℕ) → x ≤ s → s < e → ring g n s ≡ true → (x < s) ⊎ (s ≤ x) → (ring g n x || rest) ≡ true
+    here beyond s a b r (inl l) = or_true (ring g n x) (beyond.0 (s, omega arith, b, r))
+    here beyond s a b r (inr l) = let i : s ≡ x = omega arith in ap (λ k. ring g n k || rest) (sym i) ∙ ap (λ k. k || rest) r
 
-pub looked_found : (g : Grid) (n m x s : ℕ) → x ≤ m → s < m → Looked g n x s → ring g n s ≡ true → any_significant g n (outside (m - x) x) ≡ true
-looked_found g n m x s p q l r =
-    let k = m - suc s in
-    l (m - x) (suc k) (omega arith) ∙ (outside_more g n k s ∙ ap (λ b. b || any_significant g n (outside k (suc s))) r)
-
-pub looked_all : (g : Grid) (n m x s : ℕ) → x ≤ m → s ≡ m → Looked g n x s → any_significant g n (outside (m - x) x) ≡ false
-looked_all g n m x s p q l = l (m - x) 0 (omega arith)
+    apart : Within (suc x) e (λ s. ring g n s ≡ true) ↔ IsTrue rest → (r : Bool) → ring g n x ≡ r → (ring g n x || rest) ≡ true → Within x e (λ s. ring g n s ≡ true)
+    apart beyond true i y = (x, omega arith, omega arith, i)
+    apart beyond false i y = let w = beyond.1 (sym (ap (λ k. k || rest) i) ∙ y) in (w.0, omega (arith, w.1), w.2, w.3)
 
 or_false : (b : Bool) → (b || false) ≡ b
 or_false true = refl
 or_false false = refl
 
-pub rest_part_exactly : (m : ℕ) (g : Grid) (n d x : ℕ) → x + suc d ≡ m → n ≤ 14 → Exactly (significant g n (Rest d x)) (RestTells m g (2 ^ x) n)
+pub rest_part_exactly : (m : ℕ) (g : Grid) (n d x : ℕ) → x + suc d ≡ m → n ≤ 14 → (IsTrue (significant g n (Rest d x)) ↔ RestTells m g (2 ^ x) n)
 rest_part_exactly m g n d x e l = let q = rest_exactly m g n d x e in (λ y. record { exponent = x; power = refl; plane = l; reaches = q.0 y }, λ t. q.1 t.reaches)
 
-pub rest_tells_exactly : (m : ℕ) (g : Grid) (n x w : ℕ) → x < m → w ≡ 2 ^ x → n ≤ 14 → Exactly (any_significant g n (outside (m - x) x)) (RestTells m g w n)
+pub rest_tells_exactly : (m : ℕ) (g : Grid) (n x w : ℕ) → x < m → w ≡ 2 ^ x → n ≤ 14 → (IsTrue (any_significant g n (outside (m - x) x)) ↔ RestTells m g w n)
 rest_tells_exactly m g n x w h p l =
     let d = m - suc x in
     let e : m - x ≡ suc d = omega arith in
-    let q = subst (λ v. Exactly (significant g n (Rest d x)) (RestTells m g v n)) (sym p) (rest_part_exactly m g n d x (omega arith) l) in
+    let q = subst (λ v. IsTrue (significant g n (Rest d x)) ↔ RestTells m g v n) (sym p) (rest_part_exactly m g n d x (omega arith) l) in
     let s : any_significant g n (outside (m - x) x) ≡ significant g n (Rest d x) = ap (λ k. any_significant g n (outside k x)) e ∙ or_false (significant g n (Rest d x)) in
     (λ y. q.0 (sym s ∙ y), λ t. s ∙ q.1 t)
 
-pub block_tells_exactly : (m : ℕ) (g : Grid) (n s r c : ℕ) → InPlace m (Block s r c) → n ≤ 14 → Exactly (significant g n (Block s r c)) (BlockTells m g r c s n)
+pub block_tells_exactly : (m : ℕ) (g : Grid) (n s r c : ℕ) → InPlace m (Block s r c) → n ≤ 14 → (IsTrue (significant g n (Block s r c)) ↔ BlockTells m g r c s n)
 block_tells_exactly m g n s r c p l = let q = block_exactly m g n s r c p in (λ y. record { place = p; plane = l; reaches = q.0 y }, λ t. q.1 t.reaches)
 
 -- a block in its place, in units of its side

@@ -1,5 +1,5 @@
 -- What a ground tells of a block or a rest is its significance.
-use Rattle.std.proofs.Common.{◌≡◌, ℕ, suc, ◌+◌, ◌^◌, ◌<◌, ◌≤◌, Bool, true, false, ◌⊎◌, sym, refl, ap, inl, inr, arith, pow_mono}
+use Rattle.std.proofs.Common.{◌↔◌, IsTrue, ◌≡◌, ℕ, suc, ◌+◌, ◌^◌, ◌<◌, ◌≤◌, Bool, true, false, ◌⊎◌, sym, refl, ap, inl, inr, arith, pow_mono}
 use lib.Pow.{pow-lt}
 use Rattle.std.proofs.lemmas.Bool.{cases_lt}
 use Rattle.std.proofs.lemmas.Bool.Decides.{nat_tests}
@@ -7,7 +7,7 @@ use Rattle.speck.specs.Grid.{Grid, inside, significant, span, square}
 use Rattle.speck.specs.Laws.{InPlace}
 use Rattle.speck.specs.declared.Part.TheVariants.{Block, Rest}
 use Rattle.speck.proofs.Consequences.{significance}
-use Rattle.ground.specs.Tells.{Exactly, InBlock, InRectangle, Outside, Reaches, RestTells}
+use Rattle.ground.specs.Tells.{InBlock, InRectangle, Outside, Reaches, RestTells}
 
 -- a power of two below another has the smaller exponent
 pub exponent_lt : (x m : ℕ) → 2 ^ x < 2 ^ m → x < m
@@ -66,7 +66,7 @@ inside_rest d x i j p q (inl h) = grind (arith, nat_tests)
 inside_rest d x i j p q (inr h) = grind (arith, nat_tests)
 
 -- the significance of a block in its place, and of the rest outside a square, in the words of a ground
-pub block_exactly : (m : ℕ) (g : Grid) (n s r c : ℕ) → InPlace m (Block s r c) → Exactly (significant g n (Block s r c)) (Reaches m g (2 ^ n) (InBlock r c s))
+pub block_exactly : (m : ℕ) (g : Grid) (n s r c : ℕ) → InPlace m (Block s r c) → (IsTrue (significant g n (Block s r c)) ↔ Reaches m g (2 ^ n) (InBlock r c s))
 block_exactly m g n s r c p = (
   λ e. let h = (significance g n (Block s r c)).0 e in
       let b = block_named s r c h.0 h.1 h.2 in
@@ -74,7 +74,7 @@ block_exactly m g n s r c p = (
   λ q. (significance g n (Block s r c)).1 (q.row, q.column, named_block s r c q.row q.column q.named.below q.named.above q.named.beside q.named.before, q.large),
 )
 
-pub rest_exactly : (m : ℕ) (g : Grid) (n d x : ℕ) → x + suc d ≡ m → Exactly (significant g n (Rest d x)) (Reaches m g (2 ^ n) (Outside (2 ^ x)))
+pub rest_exactly : (m : ℕ) (g : Grid) (n d x : ℕ) → x + suc d ≡ m → (IsTrue (significant g n (Rest d x)) ↔ Reaches m g (2 ^ n) (Outside (2 ^ x)))
 rest_exactly m g n d x e =
     let w = ap (λ k. 2 ^ k) e in (
       λ y. let h = (significance g n (Rest d x)).0 y in
@@ -84,7 +84,7 @@ rest_exactly m g n d x e =
     )
 
 -- two answers that say the same are one
-pub same_yes : (a b : Bool) (Q : Type 0) → Exactly a Q → Exactly b Q → a ≡ b
+pub same_yes : (a b : Bool) (Q : Type 0) → (IsTrue a ↔ Q) → (IsTrue b ↔ Q) → a ≡ b
 same_yes true true Q p q = refl
 same_yes true false Q p q = sym (q.1 (p.0 refl))
 same_yes false true Q p q = p.1 (q.0 refl)

@@ -1,5 +1,5 @@
 use Rattle.std.specs.Prelude.{◌≡◌, ◌^◌}
-use Rattle.frame.specs.declared.ClosedFrame.{ClosedFrame}
+use Rattle.frame.specs.Frames.{ClosedFrame}
 use Rattle.head.specs.declared.Head.{Head}
 use Rattle.heights.specs.Coefficients.{map_of}
 use Rattle.transform.specs.Transform.{Grid, On, transform}

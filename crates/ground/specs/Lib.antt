@@ -1,3 +1,4 @@
 pub mod Tells
 pub mod Frames
 pub mod Peaks
+pub mod Tiles

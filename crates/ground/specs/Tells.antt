@@ -1,15 +1,11 @@
 -- What a ground tells of its grid g, of side 2^m.
-use Rattle.std.specs.Prelude.{◌≡◌, ℕ, ◌+◌, ◌/◌, ◌^◌, ◌<◌, ◌≤◌, Bool, true, ◌&&◌, ◌⊎◌, List, length, ℤ, pos, nat_le, slice_index_or, unsigned_abs}
+use Rattle.std.specs.Prelude.{◌≡◌, ℕ, ◌+◌, ◌/◌, ◌^◌, ◌<◌, ◌≤◌, Bool, ◌&&◌, ◌⊎◌, List, length, ℤ, pos, nat_le, slice_index_or, unsigned_abs}
 use Rattle.head.specs.Heads.{inside}
 use Rattle.speck.specs.Grid.{Grid, is_negative}
 use Rattle.speck.specs.Survey.{odd}
 use Rattle.speck.specs.Receiver.{InGrid}
 use Rattle.speck.specs.Laws.{InPlace}
 use Rattle.speck.specs.declared.Part.TheVariants.{Block}
-
--- yes exactly when Q holds
-abbrev pub Exactly : Bool → Type 0 → Type 0
-Exactly b Q = (b ≡ true → Q) × (Q → b ≡ true)
 
 -- Some cell of the grid, one of those named, has a magnitude of `least` or more.
 pub record Reaches (m : ℕ) (g : Grid) (least : ℕ) (Named : ℕ → ℕ → Type 0) : Type 0 where

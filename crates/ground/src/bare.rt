@@ -1,19 +1,19 @@
 // The bare grid: a ground that searches its coefficients.
-ghost use Rattle.std.specs.Prelude.{◌≡◌, ℕ, ◌*◌, ◌^◌, ◌≤◌, length, IfOk};
+ghost use Rattle.std.specs.Prelude.{◌≡◌, ℕ, ◌+◌, ◌^◌, ◌<◌, ◌≤◌, ◌↔◌, IfOk, IsTrue};
 ghost use Rattle.heights.specs.Coefficients.{coefficients_of};
 ghost use Rattle.transform.specs.Planes.{BelowPlanes};
-ghost use Rattle.transform.specs.Transform.{grid_of};
 ghost use Rattle.ground.specs.Frames.{GroundOf};
-ghost use Rattle.ground.specs.Tells.{Exactly, InRectangle, Reaches, SomeReach};
+ghost use Rattle.ground.specs.Tells.{InRectangle, Reaches, SomeReach};
 ghost use Rattle.std.proofs.Common.{rules};
 
-use crate::questions::{extent, in_place, inner_exponent};
-use crate::{Ground, TOP_PLANE};
+use crate::questions::{Plane, inner_exponent};
+use crate::{Block, Ground, TOP_PLANE};
 use frame::ClosedFrame;
 use head::{Head, Shape};
 use heights::Coefficients;
 use heights::undoing::CoefficientGrid;
 use std::alloc::{AllocError, Global};
+use std::ops::Range;
 
 #[derive(Drop)]
 pub struct BareGrid {
@@ -25,42 +25,36 @@ pub struct BareGrid {
 }
 
 // Whether one of the numbers has a magnitude of `least` or more.
-fn some_reach(numbers: &[i32], least: u32) -> bool
-    ensures { Exactly result (SomeReach numbers.now least) }
+fn some_reach(numbers: &[i32], least: u16) -> bool
+    ensures { IsTrue result ↔ SomeReach numbers.now least }
 {
-    for number in numbers {
-        if number.unsigned_abs() >= least {
-            return true;
-        }
-    }
-    false
+    numbers
+        .iter()
+        .any(|number| number.unsigned_abs() >= u32::from(least))
 }
 
-// A rectangle of the grid: rows from `top`, columns from `left`, up to but not `bottom` and `right`.
-#[derive(Clone, Copy)]
+// The cells of some rows and columns.
+#[derive(Drop)]
 struct Rectangle {
-    top: usize,
-    bottom: usize,
-    left: usize,
-    right: usize,
+    rows: Range<usize>,
+    columns: Range<usize>,
 }
 
-// Whether some cell of a rectangle inside the grid has a magnitude of `least` or more.
-fn rectangle_reaches(values: &[i32], shape: Shape, cells: Rectangle, least: u32) -> bool
-    requires whole { length values.now ≡ 4 ^ shape.exponent }
-    requires rows { cells.bottom ≤ 2 ^ shape.exponent }
-    requires columns { cells.right ≤ 2 ^ shape.exponent }
-    requires across { cells.left ≤ cells.right }
-    ensures { Exactly result (Reaches shape.exponent (grid_of shape.exponent values.now) least (InRectangle cells.top cells.bottom cells.left cells.right)) }
-{
-    let side = shape.side();
-    for row in cells.top..cells.bottom {
-        let start = row * side;
-        if some_reach(&values[start + cells.left..start + cells.right], least) {
-            return true;
+impl Block {
+    // The cells of a block in its place.
+    fn cells(self) -> Rectangle
+        requires small { self.side ≤ 6 }
+        requires row { self.row ≤ 64 }
+        requires column { self.column ≤ 64 }
+        ensures rows { (result.rows.start ≡ self.row) × (result.rows.end ≡ self.row + 2 ^ self.side) }
+        ensures columns { (result.columns.start ≡ self.column) × (result.columns.end ≡ self.column + 2 ^ self.side) }
+    {
+        let extent = 1 << self.side;
+        Rectangle {
+            rows: self.row..self.row + extent,
+            columns: self.column..self.column + extent,
         }
     }
-    false
 }
 
 impl BareGrid {
@@ -86,20 +80,30 @@ impl BareGrid {
         &self.coefficients
     }
 
-    // Whether some cell of a rectangle inside the grid has a magnitude of 2^plane or more.
-    fn reaches(&self, cells: Rectangle, plane: u8) -> bool
-        requires plane { plane ≤ 14 }
-        requires rows { cells.bottom ≤ 2 ^ self.now.head.shape.exponent }
-        requires columns { cells.right ≤ 2 ^ self.now.head.shape.exponent }
-        requires across { cells.left ≤ cells.right }
-        ensures { Exactly result (Reaches self.now.head.shape.exponent (coefficients_of self.now.coefficients) (2 ^ plane) (InRectangle cells.top cells.bottom cells.left cells.right)) }
+    // Whether some cell of a row inside the grid, in these columns, has a magnitude of `least` or more.
+    fn row_reaches(&self, row: usize, columns: &Range<usize>, least: u16) -> bool
+        requires row { row < 2 ^ self.now.head.shape.exponent }
+        requires columns { columns.now.end ≤ 2 ^ self.now.head.shape.exponent }
+        requires across { columns.now.start ≤ columns.now.end }
+        ensures { IsTrue result ↔ Reaches self.now.head.shape.exponent (coefficients_of self.now.coefficients) least (InRectangle row (row + 1) columns.now.start columns.now.end) }
     {
-        rectangle_reaches(
-            self.coefficients.values(),
-            self.head.shape(),
-            cells,
-            1 << plane,
+        let start = row * self.head.shape().side();
+        some_reach(
+            &self.coefficients.values()[start + columns.start..start + columns.end],
+            least,
         )
+    }
+
+    // Whether some cell of a rectangle inside the grid reaches the plane.
+    fn reaches(&self, cells: Rectangle, plane: Plane) -> bool
+        requires rows { cells.rows.end ≤ 2 ^ self.now.head.shape.exponent }
+        requires columns { cells.columns.end ≤ 2 ^ self.now.head.shape.exponent }
+        requires across { cells.columns.start ≤ cells.columns.end }
+        ensures { IsTrue result ↔ Reaches self.now.head.shape.exponent (coefficients_of self.now.coefficients) (2 ^ plane.number) (InRectangle cells.rows.start cells.rows.end cells.columns.start cells.columns.end) }
+    {
+        let Rectangle { mut rows, columns } = cells;
+        let least = plane.least();
+        rows.any(|row| self.row_reaches(row, &columns, least))
     }
 }
 
@@ -114,41 +118,26 @@ impl Ground for BareGrid {
         self.head
     }
 
-    fn block_reaches(&self, row: usize, column: usize, side: u8, plane: u8) -> bool {
-        if plane > TOP_PLANE || !in_place(self.head.shape(), row, column, side) {
+    fn block_reaches(&self, block: Block, plane: u8) -> bool {
+        let Some(plane) = Plane::new(plane) else {
             return false;
-        }
-        let extent = extent(side);
-        self.reaches(
-            Rectangle {
-                top: row,
-                bottom: row + extent,
-                left: column,
-                right: column + extent,
-            },
-            plane,
-        )
+        };
+        block.is_in_place(self.head.shape()) && self.reaches(block.cells(), plane)
     }
 
     fn rest_reaches(&self, inner: usize, plane: u8) -> bool {
-        if plane > TOP_PLANE {
-            return false;
-        }
-        let Some(_) = inner_exponent(self.head.shape(), inner) else {
+        let shape = self.head.shape();
+        let (Some(plane), Some(_)) = (Plane::new(plane), inner_exponent(shape, inner)) else {
             return false;
         };
-        let side = self.head.shape().side();
+        let side = shape.side();
         let beside = Rectangle {
-            top: 0,
-            bottom: inner,
-            left: inner,
-            right: side,
+            rows: 0..inner,
+            columns: inner..side,
         };
         let below = Rectangle {
-            top: inner,
-            bottom: side,
-            left: 0,
-            right: side,
+            rows: inner..side,
+            columns: 0..side,
         };
         self.reaches(beside, plane) || self.reaches(below, plane)
     }

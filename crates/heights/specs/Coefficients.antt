@@ -1,6 +1,5 @@
 use Rattle.std.specs.Prelude.{◌≡◌, ℕ, ◌^◌, ◌<◌, ◌≤◌, List, length, ℤ, pos, vec_items, slice_index_or, unsigned_abs}
-use Rattle.frame.specs.Frames.{heights_of}
-use Rattle.frame.specs.declared.ClosedFrame.{ClosedFrame}
+use Rattle.frame.specs.Frames.{ClosedFrame, heights_of}
 use Rattle.transform.specs.Transform.{Grid, On, grid_of, transform, undone}
 use Rattle.heights.specs.declared.Coefficients.{Coefficients}
 

@@ -1,6 +1,6 @@
 -- The survey of a closed frame.
 use Rattle.std.specs.Prelude.{◌≡◌, ℕ, ◌-◌, Bool, List, take}
-use Rattle.frame.specs.declared.ClosedFrame.{ClosedFrame}
+use Rattle.frame.specs.Frames.{ClosedFrame}
 use Rattle.ground.specs.Frames.{GroundOf}
 use Rattle.ground.specs.declared.bare.BareGrid.{BareGrid}
 use Rattle.ground.specs.declared.peak.PeakGrid.{PeakGrid}

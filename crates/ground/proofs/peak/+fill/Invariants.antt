@@ -1,4 +1,4 @@
 use Rattle.ground.proofs.peak.+fill.Given as goal
 
 abbrev pub decreases-fill : goal.decreases-fill
-decreases-fill l = l.side
+decreases-fill l = l.tile.side
