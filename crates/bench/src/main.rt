@@ -13,10 +13,9 @@ use sender::{MOST_BITS, send};
 use std::alloc::Global;
 use std::env;
 use std::io::Read;
-use std::time::Instant;
 
 // The fastest times of the phases.
-#[derive(Drop)]
+#[derive(Default, Drop)]
 struct Times {
     transform: Fastest,
     bare: Fastest,
@@ -27,19 +26,14 @@ struct Times {
 
 // Sends the whole survey, and answers its bits.
 fn whole<G: Ground>(ground: &G, out: &mut [u8], heap: Global) -> anyhow::Result<usize> {
-    match send(ground, MOST_BITS, out, heap) {
-        Ok(count) => Ok(count),
-        Err(_) => Err(anyhow!("cannot send")),
-    }
+    send(ground, MOST_BITS, out, heap).map_err(|_| anyhow!("cannot send"))
 }
 
 // The 32-bit FNV-1a hash.
 fn hash(bytes: &[u8]) -> u32 {
-    let mut sum: u32 = 2166136261;
-    for byte in bytes {
-        sum = (sum ^ u32::from(*byte)).wrapping_mul(16777619);
-    }
-    sum
+    bytes.iter().fold(2166136261, |sum: u32, byte| {
+        (sum ^ u32::from(*byte)).wrapping_mul(16777619)
+    })
 }
 
 // Every phase once.
@@ -50,22 +44,12 @@ fn round(
     times: &mut Times,
 ) -> anyhow::Result<usize> {
     let heap = rt.alloc();
-    let start = Instant::now(rt)?;
+    let coefficients = times.transform.time(rt, || Coefficients::of(frame, heap))??;
+    let bare = times.bare.time(rt, || BareGrid::over(coefficients))?;
+    let by_search = times.send_bare.time(rt, || whole(&bare, out, heap))??;
     let coefficients = Coefficients::of(frame, heap)?;
-    times.transform.note(start.elapsed(rt)?);
-    let start = Instant::now(rt)?;
-    let bare = BareGrid::over(coefficients);
-    times.bare.note(start.elapsed(rt)?);
-    let start = Instant::now(rt)?;
-    let by_search = whole(&bare, out, heap)?;
-    times.send_bare.note(start.elapsed(rt)?);
-    let coefficients = Coefficients::of(frame, heap)?;
-    let start = Instant::now(rt)?;
-    let peak = PeakGrid::over(coefficients, heap)?;
-    times.peak.note(start.elapsed(rt)?);
-    let start = Instant::now(rt)?;
-    let by_peaks = whole(&peak, out, heap)?;
-    times.send_peak.note(start.elapsed(rt)?);
+    let peak = times.peak.time(rt, || PeakGrid::over(coefficients, heap))??;
+    let by_peaks = times.send_peak.time(rt, || whole(&peak, out, heap))??;
     if by_search == by_peaks {
         Ok(by_peaks)
     } else {
@@ -86,10 +70,8 @@ fn report(rt: &HostRuntime, times: &Times) -> anyhow::Result<()> {
 
 // How many rounds the argument asks for, if there is one.
 fn rounds(rt: &HostRuntime) -> anyhow::Result<Option<u32>> {
-    match env::args(rt)?.nth(1) {
-        Some(word) => Ok(Some(word.as_str().parse::<u32>()?)),
-        None => Ok(None),
-    }
+    let word = env::args(rt)?.nth(1);
+    Ok(word.map(|word| word.as_str().parse::<u32>()).transpose()?)
 }
 
 fn run(rt: &HostRuntime) -> anyhow::Result<()> {
@@ -98,13 +80,7 @@ fn run(rt: &HostRuntime) -> anyhow::Result<()> {
     rt.stdin().read_to_end(&mut input)?;
     let frame = reading::stack(&input, heap)?;
     let mut out = vec![in heap; 0u8; MOST_BITS / 8 + 1]?;
-    let mut times = Times {
-        transform: Fastest::new(),
-        bare: Fastest::new(),
-        peak: Fastest::new(),
-        send_bare: Fastest::new(),
-        send_peak: Fastest::new(),
-    };
+    let mut times = Times::default();
     let asked = rounds(rt)?;
     let mut count = 0;
     for _ in 0..asked.unwrap_or(1) {

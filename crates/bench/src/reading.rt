@@ -10,9 +10,7 @@ pub(crate) fn stack(bytes: &[u8], heap: Global) -> anyhow::Result<ClosedFrame> {
     let [exponent, levels, cells @ ..] = bytes else {
         return Err(anyhow!("expected m and k"));
     };
-    let Ok(shape) = Shape::new(*exponent, *levels) else {
-        return Err(anyhow!("expected m and k of a map"));
-    };
+    let shape = Shape::new(*exponent, *levels).map_err(|_| anyhow!("expected m and k of a map"))?;
     let side = shape.side();
     let mut frame = OpenFrame::open(shape, heap)?;
     for (place, pair) in cells.chunks_exact(2).enumerate() {
@@ -23,12 +21,9 @@ pub(crate) fn stack(bytes: &[u8], heap: Global) -> anyhow::Result<ClosedFrame> {
         if height == NO_ECHO {
             continue;
         }
-        if frame
-            .enter(place / side, place % side, i32::from(height))
-            .is_err()
-        {
-            return Err(anyhow!("expected a height"));
-        }
+        frame
+            .enter(place / side, place % side, height.into())
+            .map_err(|_| anyhow!("expected a height"))?;
     }
     Ok(frame.close())
 }

@@ -4,7 +4,7 @@ ghost use Rattle.speck.specs.Laws.{AboutGrid, InPlace};
 ghost use Rattle.walk.specs.Walks.{asks};
 ghost use Rattle.sender.specs.Asked.{told};
 
-use ground::Ground;
+use ground::{Block, Ground};
 use speck::Part;
 use walk::Question;
 
@@ -15,12 +15,10 @@ fn significant<G: Ground>(ground: &G, part: Part, plane: u8) -> bool
     ensures { result ≡ significantPart (G.grid ground.now) plane part }
 {
     match part {
-        Part::Block { side, row, column } => ground.block_reaches(
-            row as usize,
-            column as usize,
-            side,
-            plane,
-        ),
+        Part::Block { side, row, column } => {
+            let (row, column) = (row.into(), column.into());
+            ground.block_reaches(Block { row, column, side }, plane)
+        }
         Part::Rest { side, .. } => ground.rest_reaches(1 << side, plane),
     }
 }
@@ -32,13 +30,10 @@ pub(crate) fn answer<G: Ground>(ground: &G, question: Question) -> Option<bool>
 {
     match question {
         Question::Significant { plane, part } => Some(significant(ground, part, plane)),
-        Question::Negative { row, column } => Some(ground.is_negative(
-            row as usize,
-            column as usize,
-        )),
+        Question::Negative { row, column } => Some(ground.is_negative(row.into(), column.into())),
         Question::Bit { plane, row, column } => Some(ground.has_bit(
-            row as usize,
-            column as usize,
+            row.into(),
+            column.into(),
             plane,
         )),
         Question::Nothing => None,

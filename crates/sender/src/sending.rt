@@ -40,7 +40,7 @@ pub fn send<G: Ground>(
             return Ok(i);
         };
         walk.step(answer).unwrap();
-        bits::put(out, i, answer);
+        bits::put(out, i, answer).unwrap();
     }
     Ok(slot)
 }

@@ -22,6 +22,16 @@ pub enum Fault {
     Output,
 }
 
+impl Fault {
+    // A row without so many entries.
+    pub fn entries(line: usize, count: usize) -> Fault {
+        Fault::Expected {
+            line,
+            what: Expected::Entries(count),
+        }
+    }
+}
+
 impl From<AllocError> for Fault {
     fn from(_e: AllocError) -> Fault {
         Fault::Memory

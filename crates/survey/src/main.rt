@@ -12,10 +12,10 @@ use std::process::ExitCode;
 
 fn read_input(rt: &HostRuntime) -> Result<Vec<u8>, Fault> {
     let mut bytes = Vec::new(rt.alloc());
-    match rt.stdin().read_to_end(&mut bytes) {
-        Ok(_) => Ok(bytes),
-        Err(_) => Err(Fault::Input),
-    }
+    rt.stdin()
+        .read_to_end(&mut bytes)
+        .map_err(|_| Fault::Input)?;
+    Ok(bytes)
 }
 
 fn survey(rt: &HostRuntime) -> Result<(), Fault> {
@@ -24,10 +24,7 @@ fn survey(rt: &HostRuntime) -> Result<(), Fault> {
     let frame = reading::stack(reading::text(&bytes)?, heap)?;
     let coefficients = Coefficients::of(&frame, heap)?;
     let page = printing::page(&coefficients, heap)?;
-    match rt.print(page) {
-        Ok(()) => Ok(()),
-        Err(_) => Err(Fault::Output),
-    }
+    rt.print(page).map_err(|_| Fault::Output)
 }
 
 fn main(rt: HostRuntime) -> ExitCode {

@@ -8,10 +8,13 @@ use std::fmt::Write;
 
 // Numbers in row order, a line for each row.
 fn add_rows(page: &mut String, numbers: &[i32], shape: Shape) -> Result<(), Fault> {
-    let side = shape.side();
-    for (i, number) in numbers.iter().enumerate() {
-        let end = if i % side == side - 1 { "\n" } else { " " };
-        write!(page, "{number}{end}")?;
+    for row in numbers.chunks_exact(shape.side()) {
+        let mut before = "";
+        for number in row {
+            write!(page, "{before}{number}")?;
+            before = " ";
+        }
+        page.push('\n')?;
     }
     Ok(())
 }

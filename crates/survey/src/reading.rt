@@ -2,26 +2,18 @@
 use crate::faults::{Expected, Fault};
 use frame::{ClosedFrame, OpenFrame};
 use head::Shape;
-use head::refusals::Refusal;
 use std::alloc::Global;
 
 // The input as text.
 pub(crate) fn text(bytes: &[u8]) -> Result<&str, Fault> {
-    match std::str::from_utf8(bytes) {
-        Ok(text) => Ok(text),
-        Err(e) => {
-            let mut line: usize = 1;
-            for b in bytes.iter().take(e.valid_up_to()) {
-                if *b == b'\n' {
-                    line = line.saturating_add(1);
-                }
-            }
-            Err(Fault::Expected {
-                line,
-                what: Expected::Text,
-            })
+    std::str::from_utf8(bytes).map_err(|e| {
+        let whole = bytes.iter().take(e.valid_up_to());
+        let breaks = whole.filter(|byte| **byte == b'\n').count();
+        Fault::Expected {
+            line: breaks.saturating_add(1),
+            what: Expected::Text,
         }
-    }
+    })
 }
 
 // The two numbers of the first line.
@@ -29,61 +21,43 @@ fn numbers(line: &str) -> Option<(u8, u8)> {
     let mut words = line.split_ascii_whitespace();
     let exponent = words.next()?.parse::<u8>().ok()?;
     let levels = words.next()?.parse::<u8>().ok()?;
-    match words.next() {
-        Some(_) => None,
-        None => Some((exponent, levels)),
-    }
+    words.next().is_none().then_some((exponent, levels))
 }
 
 fn shape(line: &str) -> Result<Shape, Fault> {
-    let Some((exponent, levels)) = numbers(line) else {
-        return Err(Fault::Expected {
-            line: 1,
-            what: Expected::Shape,
-        });
-    };
-    match Shape::new(exponent, levels) {
-        Ok(shape) => Ok(shape),
-        Err(e) => Err(Fault::Refused {
-            line: 1,
-            refusal: Refusal::from(e),
-        }),
-    }
+    let (exponent, levels) = numbers(line).ok_or(Fault::Expected {
+        line: 1,
+        what: Expected::Shape,
+    })?;
+    Shape::new(exponent, levels).map_err(|e| Fault::Refused {
+        line: 1,
+        refusal: e.into(),
+    })
 }
 
 // Enters the words of a row, from left to right.
 fn enter_row(frame: &mut OpenFrame, row: usize, text: &str) -> Result<(), Fault> {
     let line = row.saturating_add(2);
     let side = frame.shape().side();
-    let mut column: usize = 0;
-    for word in text.split_ascii_whitespace() {
+    for (column, word) in text.split_ascii_whitespace().enumerate() {
         if column >= side {
-            return Err(Fault::Expected {
-                line,
-                what: Expected::Entries(side),
-            });
+            return Err(Fault::entries(line, side));
         }
         if word != "." {
-            let Ok(height) = word.parse::<i32>() else {
-                return Err(Fault::Expected {
+            let height = word.parse::<i32>().map_err(|_| Fault::Expected {
+                line,
+                what: Expected::Height,
+            })?;
+            frame
+                .enter(row, column, height)
+                .map_err(|e| Fault::Refused {
                     line,
-                    what: Expected::Height,
-                });
-            };
-            if let Err(e) = frame.enter(row, column, height) {
-                return Err(Fault::Refused {
-                    line,
-                    refusal: Refusal::from(e),
-                });
-            }
+                    refusal: e.into(),
+                })?;
         }
-        column += 1;
     }
-    if column < side {
-        return Err(Fault::Expected {
-            line,
-            what: Expected::Entries(side),
-        });
+    if text.split_ascii_whitespace().count() < side {
+        return Err(Fault::entries(line, side));
     }
     Ok(())
 }
@@ -93,23 +67,17 @@ pub(crate) fn stack(text: &str, heap: Global) -> Result<ClosedFrame, Fault> {
     let (first, rest) = text.split_once('\n').unwrap_or((text, ""));
     let mut frame = OpenFrame::open(shape(first)?, heap)?;
     let side = frame.shape().side();
-    let mut rows: usize = 0;
-    for (row, line) in rest.split('\n').enumerate() {
-        if row < side {
-            enter_row(&mut frame, row, line)?;
-            rows = row + 1;
-        } else if line.split_ascii_whitespace().next().is_some() {
-            return Err(Fault::Expected {
-                line: row.saturating_add(2),
-                what: Expected::End,
-            });
-        }
+    let mut lines = rest.split('\n');
+    for row in 0..side {
+        let line = lines.next().ok_or(Fault::entries(row + 2, side))?;
+        enter_row(&mut frame, row, line)?;
     }
-    if rows < side {
-        return Err(Fault::Expected {
-            line: rows + 2,
-            what: Expected::Entries(side),
-        });
+    let mut beyond = rest.split('\n').enumerate().skip(side);
+    match beyond.find(|(_, line)| line.split_ascii_whitespace().next().is_some()) {
+        None => Ok(frame.close()),
+        Some((row, _)) => Err(Fault::Expected {
+            line: row.saturating_add(2),
+            what: Expected::End,
+        }),
     }
-    Ok(frame.close())
 }

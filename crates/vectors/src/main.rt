@@ -26,9 +26,7 @@ fn add_bytes(page: &mut String, bytes: &[u8]) -> anyhow::Result<()> {
 // The bytes that hold the whole survey, and the number of its bits.
 fn whole<G: Ground>(ground: &G, heap: Global) -> anyhow::Result<(Vec<u8>, usize)> {
     let mut bytes = vec![in heap; 0u8; MOST_BITS / 8 + 1]?;
-    let Ok(count) = send(ground, MOST_BITS, &mut bytes, heap) else {
-        return Err(anyhow!("cannot send"));
-    };
+    let count = send(ground, MOST_BITS, &mut bytes, heap).map_err(|_| anyhow!("cannot send"))?;
     bytes.truncate(count.div_ceil(8));
     Ok((bytes, count))
 }
@@ -37,9 +35,7 @@ fn whole<G: Ground>(ground: &G, heap: Global) -> anyhow::Result<(Vec<u8>, usize)
 fn add_cut(page: &mut String, ground: &PeakGrid, count: usize, heap: Global) -> anyhow::Result<()> {
     let mut bytes = vec![in heap; 255u8; count.div_ceil(8)]?;
     let slot = count / 2;
-    if send(ground, slot, &mut bytes, heap).is_err() {
-        return Err(anyhow!("cannot send"));
-    }
+    send(ground, slot, &mut bytes, heap).map_err(|_| anyhow!("cannot send"))?;
     write!(page, "cut {slot}")?;
     add_bytes(page, &bytes)
 }

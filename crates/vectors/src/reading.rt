@@ -8,10 +8,9 @@ fn shape(exponent: Option<&str>, levels: Option<&str>) -> anyhow::Result<Shape> 
     let (Some(exponent), Some(levels)) = (exponent, levels) else {
         return Err(anyhow!("expected m and k"));
     };
-    match Shape::new(exponent.parse::<u8>()?, levels.parse::<u8>()?) {
-        Ok(shape) => Ok(shape),
-        Err(_) => Err(anyhow!("expected m and k of a map")),
-    }
+    Shape::new(exponent.parse::<u8>()?, levels.parse::<u8>()?).map_err(|_| anyhow!(
+        "expected m and k of a map"
+    ))
 }
 
 pub(crate) fn stack(text: &str, heap: Global) -> anyhow::Result<ClosedFrame> {
@@ -23,12 +22,9 @@ pub(crate) fn stack(text: &str, heap: Global) -> anyhow::Result<ClosedFrame> {
         if word == "." {
             continue;
         }
-        if frame
+        frame
             .enter(place / side, place % side, word.parse::<i32>()?)
-            .is_err()
-        {
-            return Err(anyhow!("expected a height"));
-        }
+            .map_err(|_| anyhow!("expected a height"))?;
     }
     Ok(frame.close())
 }
