@@ -3,4 +3,4 @@ pub mod Peaks
 pub mod Looks
 pub mod Searching
 pub mod Ranges
-pub mod Quarters
+pub mod Depths

@@ -36,11 +36,11 @@ pub above_le : (d e : ℕ) → d ≤ e → above d ≤ above e
 above_le d e h = let z : d + (e - d) ≡ e = omega arith in subst (λ n. above d ≤ above n) z (above_mono d (e - d))
 
 -- a depth's places
-pub depth_place : (d i j : ℕ) → i < 2 ^ d → j < 2 ^ d → above d + (i * 2 ^ d + j) < above (suc d)
-depth_place d i j h k = omega (arith, above_more d, area d, mul-add-lt i (2 ^ d) j (2 ^ d) h k)
+pub place_below : (d i j : ℕ) → i < 2 ^ d → j < 2 ^ d → above d + (i * 2 ^ d + j) < above (suc d)
+place_below d i j h k = omega (arith, above_more d, area d, mul-add-lt i (2 ^ d) j (2 ^ d) h k)
 
 pub place_within : (m s i j : ℕ) → InTree m s i j → place_at m s i j < above (suc m)
-place_within m s i j t = omega (arith, depth_place (m - s) i j t.row t.column, above_le (suc (m - s)) (suc m) (omega arith))
+place_within m s i j t = omega (arith, place_below (m - s) i j t.row t.column, above_le (suc (m - s)) (suc m) (omega arith))
 
 -- no two blocks have one place
 same_depth : (d e i j k l : ℕ) → i < 2 ^ d → j < 2 ^ d → k < 2 ^ e → l < 2 ^ e → above d + (i * 2 ^ d + j) ≡ above e + (k * 2 ^ e + l) → d ≡ e
@@ -48,8 +48,8 @@ same_depth d e i j k l hi hj hk hl q = by (cases_order d e)
   where
     by : (d ≡ e) ⊎ ((d < e) ⊎ (e < d)) → d ≡ e
     by (inl p) = p
-    by (inr (inl p)) = absurd (omega (arith, depth_place d i j hi hj, above_le (suc d) e (omega arith)))
-    by (inr (inr p)) = absurd (omega (arith, depth_place e k l hk hl, above_le (suc e) d (omega arith)))
+    by (inr (inl p)) = absurd (omega (arith, place_below d i j hi hj, above_le (suc d) e (omega arith)))
+    by (inr (inr p)) = absurd (omega (arith, place_below e k l hk hl, above_le (suc e) d (omega arith)))
 
 same_cell : (d i j k l : ℕ) → j < 2 ^ d → l < 2 ^ d → i * 2 ^ d + j ≡ k * 2 ^ d + l → (i ≡ k) × (j ≡ l)
 same_cell d i j k l hj hl q = (

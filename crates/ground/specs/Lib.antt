@@ -1,4 +1,3 @@
 pub mod Tells
 pub mod Frames
 pub mod Peaks
-pub mod Tiles

@@ -1,5 +1,7 @@
 -- The peaks of a grid's blocks, and where they are kept. A block is named by its side exponent s and by its row and column in units of its side 2^s.
 use Rattle.std.specs.Prelude.{◌≡◌, ℕ, zero, suc, ◌+◌, ◌-◌, ◌*◌, ◌^◌, ◌<◌, ◌≤◌, max, List, slice_index, unsigned_abs}
+use Rattle.speck.specs.declared.Part.{Part}
+use Rattle.speck.specs.declared.Part.TheVariants.{Block}
 use Rattle.speck.specs.Grid.{Grid, upper}
 
 -- A cell's peak is its magnitude, and a larger block's the largest of its quarters' peaks.
@@ -15,6 +17,10 @@ above (suc d) = above d + 4 ^ d
 -- the place of a block of a grid of side 2^m
 abbrev pub place_at : ℕ → ℕ → ℕ → ℕ → ℕ
 place_at m s i j = above (m - s) + (i * 2 ^ (m - s) + j)
+
+-- a block named by its depth, as the part that it is
+abbrev pub tile_of : ℕ → ℕ → ℕ → ℕ → Part
+tile_of m depth i j = Block (m - depth) (i * 2 ^ (m - depth)) (j * 2 ^ (m - depth))
 
 -- a block of a grid of side 2^m
 pub record InTree (m s i j : ℕ) : Type 0 where

@@ -1,10 +1,9 @@
 // The peak grid: a ground that keeps the peak of every block, so that a block is answered by one look.
-ghost use Rattle.std.specs.Prelude.{◌≡◌, ℕ, suc, ◌*◌, ◌^◌, ◌<◌, ◌≤◌, [], ◌∷◌, length, IfOk, vec_len, unsigned_abs};
+ghost use Rattle.std.specs.Prelude.{◌≡◌, ℕ, suc, ◌+◌, ◌-◌, ◌*◌, ◌^◌, ◌<◌, ◌≤◌, [], ◌∷◌, length, IfOk, vec_len, unsigned_abs};
 ghost use Rattle.speck.specs.Grid.{any_significant, significant};
 ghost use Rattle.heights.specs.Coefficients.{coefficients_of};
 ghost use Rattle.ground.specs.Frames.{GroundOf};
-ghost use Rattle.ground.specs.Peaks.{Filled, Node, Right, above, peak_of};
-ghost use Rattle.ground.specs.Tiles.{Quartered};
+ghost use Rattle.ground.specs.Peaks.{Filled, Node, Right, above, peak_of, tile_of};
 ghost use Rattle.std.proofs.Common.{rules};
 
 use crate::bare::BareGrid;
@@ -27,40 +26,26 @@ pub struct PeakGrid {
     ghost right: { ((b : Node bare.head.shape.exponent) → Right bare.head.shape.exponent (coefficients_of bare.coefficients) peaks.items b.side b.row b.column) },
 }
 
-impl Tile {
-    // The four blocks that it is made of; none for a cell.
-    fn quarters(self) -> Option<[Tile; 4]>
-        ensures { Quartered self result }
-    {
-        let side = self.side.checked_sub(1)?;
-        let (shape, row, column) = (self.shape, 2 * self.row, 2 * self.column);
-        Some([
-            Tile::new(shape, side, row, column),
-            Tile::new(shape, side, row, column + 1),
-            Tile::new(shape, side, row + 1, column),
-            Tile::new(shape, side, row + 1, column + 1),
-        ])
-    }
-}
-
-// Fills in the peaks of a block and of all blocks within it, and answers the block's.
-fn fill(peaks: &mut [u16], coefficients: &Coefficients, tile: Tile) -> u16
-    requires same { tile.shape ≡ coefficients.now.shape }
-    requires room { length peaks.old ≡ above (suc tile.shape.exponent) }
-    ensures value { result ≡ peak_of (coefficients_of coefficients.now) tile.side tile.row tile.column }
-    ensures filled { Filled tile.shape.exponent (coefficients_of coefficients.now) tile.side tile.row tile.column peaks.old peaks.new }
+// Fills in the peaks of a block and of all blocks within it, and answers the block's. The block's numbers are handed one by one: as a `Tile`, which is passed in memory, they take half as long again.
+fn fill(peaks: &mut [u16], coefficients: &Coefficients, depth: u8, row: usize, column: usize) -> u16
+    requires deep { depth ≤ coefficients.now.shape.exponent }
+    requires row_in { row < 2 ^ depth }
+    requires column_in { column < 2 ^ depth }
+    requires room { length peaks.old ≡ above (suc coefficients.now.shape.exponent) }
+    ensures value { result ≡ peak_of (coefficients_of coefficients.now) (coefficients.now.shape.exponent - depth) row column }
+    ensures filled { Filled coefficients.now.shape.exponent (coefficients_of coefficients.now) (coefficients.now.shape.exponent - depth) row column peaks.old peaks.new }
 {
-    let peak = match tile.quarters() {
-        None => magnitude(coefficients, tile.row, tile.column),
-        Some(quarters) => {
-            let [a, b, c, d] = quarters;
-            let a = fill(peaks, coefficients, a);
-            let b = fill(peaks, coefficients, b);
-            let c = fill(peaks, coefficients, c);
-            let d = fill(peaks, coefficients, d);
-            a.max(b).max(c.max(d))
-        }
+    let peak = if depth == coefficients.shape().exponent() {
+        magnitude(coefficients, row, column)
+    } else {
+        let (below, top, left) = (depth + 1, 2 * row, 2 * column);
+        let a = fill(peaks, coefficients, below, top, left);
+        let b = fill(peaks, coefficients, below, top, left + 1);
+        let c = fill(peaks, coefficients, below, top + 1, left);
+        let d = fill(peaks, coefficients, below, top + 1, left + 1);
+        a.max(b).max(c.max(d))
     };
+    let tile = Tile { depth, row, column };
     peaks[tile.place()] = peak;
     peak
 }
@@ -71,7 +56,8 @@ fn magnitude(coefficients: &Coefficients, row: usize, column: usize) -> u16
     requires column_in { column < 2 ^ coefficients.now.shape.exponent }
     ensures { result ≡ unsigned_abs (coefficients_of coefficients.now row column) }
 {
-    coefficients.coefficient(row, column).unsigned_abs() as u16
+    let side = coefficients.shape().side();
+    coefficients.values()[row * side + column].unsigned_abs() as u16
 }
 
 impl PeakGrid {
@@ -86,11 +72,9 @@ impl PeakGrid {
     pub fn over(coefficients: Coefficients, heap: Global) -> Result<PeakGrid, AllocError>
         ensures { IfOk result (λ p. (p.bare.coefficients ≡ coefficients) × (p.bare.head.shape ≡ coefficients.shape)) }
     {
-        let shape = coefficients.shape();
-        let exponent = shape.exponent();
-        let whole = Tile::new(shape, exponent, 0, 0);
+        let exponent = coefficients.shape().exponent();
         let mut peaks = vec![in heap; 0u16; above_depth(exponent + 1)]?;
-        fill(peaks.as_mut_slice(), &coefficients, whole);
+        fill(peaks.as_mut_slice(), &coefficients, 0, 0, 0);
         let bare = BareGrid::over(coefficients);
         Ok(PeakGrid { bare, peaks })
     }
@@ -103,8 +87,8 @@ impl PeakGrid {
 
     // Whether a block of the grid reaches the plane.
     fn look(&self, tile: Tile, plane: Plane) -> bool
-        requires { tile.shape.exponent ≡ self.now.bare.head.shape.exponent }
-        ensures { result ≡ significant (coefficients_of self.now.bare.coefficients) plane.number (Part.Block tile.side (tile.row * 2 ^ tile.side) (tile.column * 2 ^ tile.side)) }
+        requires { tile.depth ≤ self.now.bare.head.shape.exponent }
+        ensures { result ≡ significant (coefficients_of self.now.bare.coefficients) plane.number (tile_of self.now.bare.head.shape.exponent tile.depth tile.row tile.column) }
     {
         self.peaks[tile.place()] >= plane.least()
     }
@@ -114,10 +98,23 @@ impl PeakGrid {
         requires { side < self.now.bare.head.shape.exponent }
         ensures { result ≡ any_significant (coefficients_of self.now.bare.coefficients) plane.number (Part.Block side 0 (2 ^ side) ∷ Part.Block side (2 ^ side) 0 ∷ Part.Block side (2 ^ side) (2 ^ side) ∷ []) }
     {
-        let shape = self.head().shape();
-        self.look(Tile::new(shape, side, 0, 1), plane)
-            || self.look(Tile::new(shape, side, 1, 0), plane)
-            || self.look(Tile::new(shape, side, 1, 1), plane)
+        let depth = self.head().shape().exponent() - side;
+        let beside = Tile {
+            depth,
+            row: 0,
+            column: 1,
+        };
+        let below = Tile {
+            depth,
+            row: 1,
+            column: 0,
+        };
+        let across = Tile {
+            depth,
+            row: 1,
+            column: 1,
+        };
+        self.look(beside, plane) || self.look(below, plane) || self.look(across, plane)
     }
 }
 
@@ -140,8 +137,12 @@ impl Ground for PeakGrid {
         if !block.is_in_place(shape) {
             return false;
         }
-        let Block { row, column, side } = block;
-        self.look(Tile::new(shape, side, row >> side, column >> side), plane)
+        let tile = Tile {
+            depth: shape.exponent() - block.side,
+            row: block.row >> block.side,
+            column: block.column >> block.side,
+        };
+        self.look(tile, plane)
     }
 
     fn rest_reaches(&self, inner: usize, plane: u8) -> bool {
