@@ -1,5 +1,5 @@
 -- What the machine's laws say of a walk and the bits that it has taken.
-use Rattle.std.proofs.Common.{◌≡◌, ℕ, zero, suc, ◌+◌, Bool, List, [], ◌∷◌, ◌++◌, Ok, Err, Result, sym, refl, ap, ◌∙◌, subst}
+use Rattle.std.proofs.Common.{◌≡◌, ℕ, zero, suc, ◌+◌, Bool, List, [], ◌∷◌, ◌++◌, Ok, Err, Result, Option, sym, refl, ap, ◌∙◌, subst}
 use Rattle.speck.specs.Grid.{Grid}
 use Rattle.speck.specs.Machine.{State, owing, asking, sign, refinement, finished, Next, going, contradiction, surplus, Question, ask, feed, run, start, step}
 use Rattle.speck.specs.Laws.{AsksOn, BeginsASurvey}
@@ -39,7 +39,7 @@ judge w (Ok _) x k P bits h = taken w x k P bits (run (going (start x k P)) bits
 judge w (Err e) x k P bits h = λ b. let t = (refused x k P bits).1 b in off e (state_of w) (subst IsOn (sym (ap bare_next t.1) ∙ h) tt)
 
 -- a step on what is asked and answered
-pub moved : {a d : Asking} {b e : Bool} (l : Lists) → a ≡ d → b ≡ e → place_step (state_in d l) e ≡ place_step (state_in a l) b
+pub moved : {a d : Option Asking} {b e : Bool} (l : Lists) → a ≡ d → b ≡ e → place_step (state_in d l) e ≡ place_step (state_in a l) b
 moved {a} {d} {b} {e} l h k = sym (ap (λ i. place_step (state_in i l) b) h ∙ ap (λ i. place_step (state_in d l) i) k)
 
 -- a step of the walk, after bits, is the machine's after the same bits
@@ -55,7 +55,7 @@ asks_bare (sign n r c free noes old new) g bits all h = h
 asks_bare (refinement n e todo done noes new) g bits all h = h
 asks_bare (finished noes old) g bits all h = h
 
-pub asked : {a d : Asking} (l : Lists) → a ≡ d → ask (state_in d l) ≡ ask (state_in a l)
+pub asked : {a d : Option Asking} (l : Lists) → a ≡ d → ask (state_in d l) ≡ ask (state_in a l)
 asked l h = sym (ap (λ i. ask (state_in i l)) h)
 
 -- the walk's question, after the first bits of a survey, is the survey's next

@@ -3,9 +3,10 @@ use Rattle.std.proofs.Common.{◌≡◌, ℕ, suc, ◌+◌, ◌-◌, ◌<◌, �
 use Rattle.std.proofs.lemmas.List.{take-append-le, drop-append-le, length_push, take_more}
 use Rattle.speck.specs.declared.Part.{Part}
 use Rattle.speck.specs.Survey.{Found}
-use Rattle.speck.specs.Machine.{State, owing, going}
+use Rattle.speck.specs.Machine.{Next, owing, going}
 use Rattle.speck.specs.Places.{place_step}
-use Rattle.walk.specs.Parts.{All, Within, area, areas}
+use Rattle.std.specs.List.{AllByRecursion}
+use Rattle.walk.specs.Parts.{Within, area, areas}
 use Rattle.walk.specs.Layout.{Sound, blank}
 use Rattle.walk.proofs.Facts.{all_append, areas_append, area_pos, length_areas}
 
@@ -16,7 +17,7 @@ insignificant_room n p todo w cells kept at r0 r1 r2 len s e = omega (arith, are
 pub insignificant_more : (n : ℕ) (p : Part) (todo w w' : List Part) (cells : List Found) (kept at r0 r1 r2 r1' : ℕ) → Sound (area p) n todo w cells kept at r0 r1 r2 → Within p → w' ≡ w ++ p ∷ [] → r1' ≡ r1 → Sound 0 n todo w' cells kept at r0 r1' r2
 insignificant_more n p todo w w' cells kept at r0 r1 r2 r1' s h e f =
     let a : areas w' ≡ areas w + (area p + 0) = ap areas e ∙ areas_append w (p ∷ []) in
-    record { plane = s.plane; pending = s.pending; waiting = subst (All Within) (sym e) (all_append Within w (p ∷ []) s.waiting (h, tt)); room0 = omega (arith, s.room0); room1 = omega (arith, s.room1); room2 = omega (arith, s.room2); known = s.known; position = s.position }
+    record { plane = s.plane; pending = s.pending; waiting = subst (AllByRecursion Within) (sym e) (all_append Within w (p ∷ []) s.waiting (h, tt)); room0 = omega (arith, s.room0); room1 = omega (arith, s.room1); room2 = omega (arith, s.room2); known = s.known; position = s.position }
 
 pub owed_no : (n : ℕ) (p p₁ : Part) (remaining : ℕ) (todo todo' w w' : List Part) (old new : List Found) → 0 < remaining → todo ≡ p₁ ∷ todo' → w' ≡ w ++ p ∷ [] → going (owing n p₁ (take (remaining - 1) todo') (drop (remaining - 1) todo') w' old new) ≡ place_step (owing n p (take remaining todo) (drop remaining todo) w old new) false
 owed_no n p p₁ remaining todo todo' w w' old new h q e =
@@ -30,7 +31,7 @@ found_more n x todo w cells cells' kept at r0 r1 r2 r2' s e f =
     let m : length cells' ≡ length cells + 1 = ap length e ∙ length_push cells x in
     record { plane = s.plane; pending = s.pending; waiting = s.waiting; room0 = omega (arith, s.room0); room1 = omega (arith, s.room1); room2 = omega (arith, s.room2); known = omega arith; position = s.position }
 
-pub found_go : (go : List Found → List Found → State) (x : Found) (cells cells' : List Found) (kept : ℕ) → kept ≤ length cells → cells' ≡ cells ++ x ∷ [] → go (take kept cells') (drop kept cells') ≡ go (take kept cells) (drop kept cells ++ x ∷ [])
+pub found_go : (go : List Found → List Found → Next) (x : Found) (cells cells' : List Found) (kept : ℕ) → kept ≤ length cells → cells' ≡ cells ++ x ∷ [] → go (take kept cells') (drop kept cells') ≡ go (take kept cells) (drop kept cells ++ x ∷ [])
 found_go go x cells cells' kept k e = rw (e, take-append-le kept cells (x ∷ []) k, drop-append-le kept cells (x ∷ []) k) refl
 
 -- a bit came

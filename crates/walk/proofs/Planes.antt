@@ -1,5 +1,5 @@
 -- The first question of a plane.
-use Rattle.std.proofs.Common.{◌≡◌, ℕ, zero, suc, ◌+◌, ◌-◌, ◌^◌, ◌<◌, ◌≤◌, true, false, cond, List, [], ◌∷◌, ◌++◌, length, get_or, take, drop, sym, refl, ap, ◌∙◌, subst, add-one, arith, pow_mono}
+use Rattle.std.proofs.Common.{◌≡◌, ℕ, zero, suc, ◌+◌, ◌-◌, ◌^◌, ◌<◌, ◌≤◌, true, false, cond, List, [], ◌∷◌, ◌++◌, length, get_or, take, drop, sym, refl, ap, ◌∙◌, append-nil, subst, add-one, arith, pow_mono}
 use Rattle.speck.specs.Grid.{outside}
 use Rattle.speck.specs.declared.Part.TheVariants.{Block}
 use Rattle.std.proofs.lemmas.List.{take_all, drop_all, take-append-drop, nil_from_length, drop_more, length-take-le, get_or-take}
@@ -7,10 +7,15 @@ use Rattle.speck.specs.declared.Part.{Part}
 use Rattle.speck.specs.Survey.{Found}
 use Rattle.speck.specs.Survey.{insert, arranged, before}
 use Rattle.speck.specs.Machine.{owing, asking, refinement, finished, enter_plane, go_on_by, refine_on_by, start}
-use Rattle.walk.specs.Parts.{All, Within, area, areas}
+use Rattle.std.specs.List.{AllByRecursion}
+use Rattle.walk.specs.Parts.{Within, area, areas}
+use Rattle.walk.specs.Piles.{Stack, laid}
 use Rattle.walk.specs.Layout.{Sound, blank}
-use Rattle.walk.proofs.Facts.{outside_all, outside_within}
+use Rattle.walk.proofs.Facts.{area_pos, length_areas, outside_all, outside_within}
 use Rattle.walk.proofs.Tiers.{length_arrange}
+
+pub gathered : (w : List Part) (old new : Stack) → old.parts ≡ [] → new ≡ laid (arranged w) old → new.parts ≡ arranged w
+gathered w old new o t = ap (λ s. s.parts) t ∙ ap (λ l. arranged w ++ l) o ∙ append-nil (arranged w)
 
 areas_place : (p : Part) (l : List Part) → areas (insert p l) ≡ area p + areas l
 unfolding insert
@@ -24,28 +29,30 @@ unfolding arranged
 areas_arrange [] = refl
 areas_arrange (p ∷ l) = omega (arith, areas_place p (arranged l), areas_arrange l)
 
-all_place : (P : Part → Type 0) (p : Part) (l : List Part) → P p → All P l → All P (insert p l)
+all_place : (P : Part → Type 0) (p : Part) (l : List Part) → P p → AllByRecursion P l → AllByRecursion P (insert p l)
 unfolding insert
 all_place P p [] a b = (a, tt)
 all_place P p (q ∷ l) a b =
     let h = all_place P p l a b.1 in
-    elim (before p q) as (λ t. All P (cond t (p ∷ q ∷ l) (q ∷ insert p l))) [ true ↦ (a, b) | false ↦ (b.0, h) ]
+    elim (before p q) as (λ t. AllByRecursion P (cond t (p ∷ q ∷ l) (q ∷ insert p l))) [ true ↦ (a, b) | false ↦ (b.0, h) ]
 
-pub all_arrange : (P : Part → Type 0) (l : List Part) → All P l → All P (arranged l)
+pub all_arrange : (P : Part → Type 0) (l : List Part) → AllByRecursion P l → AllByRecursion P (arranged l)
 unfolding arranged
 all_arrange P [] a = tt
 all_arrange P (p ∷ l) a = all_place P p (arranged l) a.0 (all_arrange P l a.1)
 
 -- a plane ended: the next one's lists
-pub fresh : (n : ℕ) (todo w todo' w' : List Part) (cells : List Found) (kept at kept' r0 r1 r2 r0' r1' : ℕ) → Sound 0 n todo w cells kept at r0 r1 r2 → at ≡ kept → 0 < n → todo' ≡ arranged w → w' ≡ [] → kept' ≡ length cells → r0' ≡ r0 → r1' ≡ r1 → Sound 0 (n - 1) todo' w' cells kept' 0 r0' r1' r2
-fresh n todo w todo' w' cells kept at kept' r0 r1 r2 r0' r1' s a h t z k e f =
+pub fresh : (n : ℕ) (w w' : List Part) (old new : Stack) (cells : List Found) (kept at kept' r1 r2 r1' : ℕ) → Sound 0 n old.parts w cells kept at old.room r1 r2 → at ≡ kept → 0 < n → old.parts ≡ [] → new ≡ laid (arranged w) old → w' ≡ [] → kept' ≡ length cells → r1' ≡ r1 → Sound 0 (n - 1) new.parts w' cells kept' 0 new.room r1' r2
+fresh n w w' old new cells kept at kept' r1 r2 r1' s a h o t z k f =
     let y = areas_arrange w in
-    let v : areas todo' ≡ areas (arranged w) = ap areas t in
+    let p : new.parts ≡ arranged w = gathered w old new o t in
+    let v : areas new.parts ≡ areas (arranged w) = ap areas p in
+    let q : new.room ≡ old.room = ap (λ x. x.room) t in
     let u : areas w' ≡ 0 = ap areas z in
     record {
       plane = omega (arith, s.plane);
-      pending = subst (All Within) (sym t) (all_arrange Within w s.waiting);
-      waiting = subst (All Within) (sym z) tt;
+      pending = subst (AllByRecursion Within) (sym p) (all_arrange Within w s.waiting);
+      waiting = subst (AllByRecursion Within) (sym z) tt;
       room0 = omega (arith, s.room0);
       room1 = omega (arith, s.room1);
       room2 = omega (arith, s.room2);
@@ -53,11 +60,10 @@ fresh n todo w todo' w' cells kept at kept' r0 r1 r2 r0' r1' s a h t z k e f =
       position = omega arith;
     }
 
-pub drawn : (n : ℕ) (p : Part) (todo todo' w : List Part) (cells : List Found) (kept at r0 r1 r2 r0' : ℕ) → Sound 0 n todo w cells kept at r0 r1 r2 → todo ≡ p ∷ todo' → r0' ≡ r0 → Sound (area p) n todo' w cells kept at r0' r1 r2 × Within p
-drawn n p todo todo' w cells kept at r0 r1 r2 r0' s e f =
-    let v : areas todo ≡ area p + areas todo' = ap areas e in
-    let a : All Within (p ∷ todo') = subst (All Within) e s.pending in
-    (record { plane = s.plane; pending = a.1; waiting = s.waiting; room0 = omega (arith, s.room0); room1 = omega (arith, s.room1); room2 = omega (arith, s.room2); known = s.known; position = s.position }, a.0)
+pub drawn : (n : ℕ) (p : Part) (old new : Stack) (w : List Part) (cells : List Found) (kept at r1 r2 : ℕ) → Sound 0 n old.parts w cells kept at old.room r1 r2 → old ≡ laid (p ∷ []) new → Sound (area p) n new.parts w cells kept at new.room r1 r2 × Within p
+drawn n p old new w cells kept at r1 r2 s e =
+    let t : Sound 0 n (p ∷ new.parts) w cells kept at new.room r1 r2 = subst (λ q. Sound 0 n q.parts w cells kept at q.room r1 r2) e s in
+    (record { plane = t.plane; pending = t.pending.1; waiting = t.waiting; room0 = omega (arith, t.room0); room1 = omega (arith, t.room1); room2 = omega (arith, t.room2); known = t.known; position = t.position }, t.pending.0)
 
 -- what the machine asks then
 pub enter_part : (n : ℕ) (p : Part) (todo w w' : List Part) (f : List Found) (kept : ℕ) → 0 < n → arranged w ≡ p ∷ todo → w' ≡ [] → kept ≡ length f → asking (n - 1) p todo w' (take kept f) (drop kept f) ≡ enter_plane n w f
@@ -111,3 +117,7 @@ first_sound x k n kept at r0 r1 r2 todo noes cells h w e f g i j a b c =
 
 pub first_within : (x k : ℕ) → x + k ≤ 6 → Within (Block x 0 0)
 first_within x k h = let m : 2 ^ x ≤ 2 ^ 6 = pow_mono {i = x} {j = 6} (omega arith) in (omega arith, omega arith, omega arith)
+
+-- there is room for what lies outside the corner
+pub first_room : (d x : ℕ) → length (outside d x) < 4 ^ (x + d)
+first_room d x = omega (arith, outside_all d x, length_areas (outside d x), area_pos (Block x 0 0))

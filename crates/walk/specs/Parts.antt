@@ -4,15 +4,8 @@ use Rattle.speck.specs.declared.Part.{Part}
 use Rattle.speck.specs.declared.Part.TheVariants.{Block, Rest}
 use Rattle.head.specs.declared.refusals.Refusal.{Refusal}
 use Rattle.head.specs.declared.refusals.Refusal.TheVariants as refusal
-use Rattle.walk.specs.declared.asking.Asking.{Asking}
-use Rattle.walk.specs.declared.asking.Asking.TheVariants as asking
 use Rattle.walk.specs.declared.asking.BitFault.{BitFault}
 use Rattle.walk.specs.declared.asking.BitFault.TheVariants as fault
-
--- what holds of each
-abbrev pub All : {X : Type 0} → (X → Type 0) → List X → Type 0
-All P [] = Unit {0}
-All P (x ∷ xs) = P x × All P xs
 
 -- the part lies within 64 rows and 64 columns
 abbrev pub Within : Part → Type 0
@@ -31,11 +24,6 @@ area (Rest d x) = ring d x
 abbrev pub areas : List Part → ℕ
 areas [] = 0
 areas (p ∷ ps) = area p + areas ps
-
--- the state that asks a part whose set owes nothing
-abbrev pub waiting_of : Part → Asking
-waiting_of (Block s r c) = asking.Block s r c
-waiting_of (Rest d x) = asking.Rest d x
 
 -- which refusal a fault of a bit is
 abbrev pub refusal_of : BitFault → Refusal

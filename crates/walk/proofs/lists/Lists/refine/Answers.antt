@@ -1,6 +1,6 @@
 use Rattle.std.proofs.Common.{◌+◌, drop, ap, ◌∙◌, arith}
 use Rattle.std.proofs.lemmas.List.{nil_from_length}
-use Rattle.speck.specs.Machine.{refine_on}
+use Rattle.speck.specs.Machine.{going, refine_on}
 use Rattle.walk.specs.Layout.{cells_of, old_of, new_of, noes_of}
 use Rattle.walk.proofs.Moves.{bit_more, bit_done}
 use Rattle.walk.proofs.lists.Lists.refine.Goals as goal
@@ -11,4 +11,4 @@ refine_on-requires c = record { sound = bit_more _ _ _ _ _ _ _ _ _ c.requires.so
 pub returns : goal.returns
 returns c =
     let l = c.args.self.now in
-    record { state = c.refine_on.ensures.state ∙ ap (λ d. refine_on l.plane (drop (l.at + 1) (old_of l)) d (noes_of l) (new_of l)) (bit_done (cells_of l) l.at (omega (arith, c.requires.at, c.requires.sound.known))); good = c.refine_on.ensures.good }
+    record { state = c.refine_on.ensures.state ∙ ap (λ d. going (refine_on l.plane (drop (l.at + 1) (old_of l)) d (noes_of l) (new_of l))) (bit_done (cells_of l) l.at (omega (arith, c.requires.at, c.requires.sound.known))); good = c.refine_on.ensures.good }
