@@ -51,9 +51,9 @@ spread_block p s r c e h w =
     let q : p ≡ Block (suc (s - 1)) r c = e ∙ ap (λ x. Block x r c) (omega arith) in
     rw q (spread_suc (s - 1) r c (subst Within q w))
 
-outside_fine : (d x : ℕ) → x + d ≤ 6 → AllByRecursion Within (outside d x)
-outside_fine zero x h = tt
-outside_fine (suc d) x h = (omega arith, tt)
+pub outside_within : (d x : ℕ) → x + d ≤ 6 → AllByRecursion Within (outside d x)
+outside_within zero x h = tt
+outside_within (suc d) x h = (omega arith, tt)
 
 ring_outside : (d x : ℕ) → ring d x ≡ 3 * 4 ^ x + areas (outside d (suc x))
 ring_outside zero x = omega arith
@@ -63,7 +63,7 @@ pub spread_out : (d x : ℕ) → Within (Rest d x) → Spreads (Rest d x) (Block
 spread_out d x w =
     let a : 2 ^ suc x ≤ 2 ^ 6 = pow_mono {i = suc x} {j = 6} (omega arith) in
     let b : 2 ^ suc x ≡ 2 * 2 ^ x = pow-succ' 2 x in
-    record { shown = refl; size = omega (arith, ring_outside d x); first = (omega arith, omega arith, omega arith); others = ((omega arith, omega arith, omega arith), ((omega arith, omega arith, omega arith), outside_fine d (suc x) (omega arith))) }
+    record { shown = refl; size = omega (arith, ring_outside d x); first = (omega arith, omega arith, omega arith); others = ((omega arith, omega arith, omega arith), ((omega arith, omega arith, omega arith), outside_within d (suc x) (omega arith))) }
 
 pub spread_rest : (p : Part) (d x : ℕ) → p ≡ Rest d x → Within p → Spreads p (Block x 0 (0 + 2 ^ x)) (Block x (0 + 2 ^ x) 0 ∷ Block x (0 + 2 ^ x) (0 + 2 ^ x) ∷ outside d (x + 1))
 spread_rest p d x e w = rw (e, zero-add, add-one) (spread_out d x (subst Within e w))
@@ -76,13 +76,6 @@ spread_sound p a ks todo noes cells n kept at r0 r1 r2 e h =
     let z = areas_append ks todo in
     record { plane = h.plane; pending = all_append Within ks todo e.others h.pending; waiting = h.waiting; room0 = omega (arith, e.size, h.room0); room1 = omega (arith, e.size, h.room1); room2 = omega (arith, e.size, h.room2); known = h.known; position = h.position }
 
-doubled : (a b : ℕ) → a * a ≡ b → 2 * a * (2 * a) ≡ 4 * b
-doubled a b e = omega (arith, e, mul_assoc 2 a (2 * a), mul_comm a (2 * a), mul_assoc 2 a a)
-
-pub squared : (s : ℕ) → 2 ^ s * 2 ^ s ≡ 4 ^ s
-squared zero = refl
-squared (suc s) = rw (pow-succ' 2 s, pow-succ' 4 s) (doubled (2 ^ s) (4 ^ s) (squared s))
-
 -- the square and what lies outside of it
 ring_all : (d x : ℕ) → 4 ^ x + ring d x ≡ 4 ^ (x + suc d)
 ring_all zero x = let e : x + 1 ≡ suc x = omega arith in rw e (omega (arith, pow-succ' 4 x))
@@ -91,6 +84,3 @@ ring_all (suc d) x = let e : x + suc (suc d) ≡ suc x + suc d = omega arith in 
 pub outside_all : (d x : ℕ) → 4 ^ x + areas (outside d x) ≡ 4 ^ (x + d)
 outside_all zero x = let e : x + 0 ≡ x = omega arith in rw e (omega arith)
 outside_all (suc d) x = omega (arith, ring_all d x)
-
-pub outside_within : (d x : ℕ) → x + d ≤ 6 → AllByRecursion Within (outside d x)
-outside_within = outside_fine

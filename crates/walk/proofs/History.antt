@@ -38,10 +38,6 @@ judge : (w : Walk) (r : Result (Unit {0}) BitFault) (x k P : ℕ) (bits : List B
 judge w (Ok _) x k P bits h = taken w x k P bits (run (going (start x k P)) bits) refl h
 judge w (Err e) x k P bits h = λ b. let t = (refused x k P bits).1 b in off e (state_of w) (subst IsOn (sym (ap bare_next t.1) ∙ h) tt)
 
--- a step on what is asked and answered
-pub moved : {a d : Option Asking} {b e : Bool} (l : Lists) → a ≡ d → b ≡ e → place_step (state_in d l) e ≡ place_step (state_in a l) b
-moved {a} {d} {b} {e} l h k = sym (ap (λ i. place_step (state_in i l) b) h ∙ ap (λ i. place_step (state_in d l) i) k)
-
 -- a step of the walk, after bits, is the machine's after the same bits
 pub judges : (w v : Walk) (r : Result (Unit {0}) BitFault) (b : Bool) → next_of r (state_of v) ≡ place_step (state_of w) b → (x k P : ℕ) (bits : List Bool) → Follows w x k P bits → Judged r v x k P (bits ++ b ∷ [])
 judges w v r b h x k P bits f =

@@ -23,20 +23,3 @@ pub owed_no : (n : ℕ) (p p₁ : Part) (remaining : ℕ) (todo todo' w w' : Lis
 owed_no n p p₁ remaining todo todo' w w' old new h q e =
     let j : remaining ≡ suc (remaining - 1) = omega arith in
     ap (λ v. going (owing n p₁ (take (remaining - 1) todo') (drop (remaining - 1) todo') v old new)) e ∙ sym (ap (λ i. place_step (owing n p (take i todo) (drop i todo) w old new) false) j ∙ ap (λ t. place_step (owing n p (take (suc (remaining - 1)) t) (drop (suc (remaining - 1)) t) w old new) false) q)
-
--- a cell was found
-pub found_more : (n : ℕ) (x : Found) (todo w : List Part) (cells cells' : List Found) (kept at r0 r1 r2 r2' : ℕ) → Sound 1 n todo w cells kept at r0 r1 r2 → cells' ≡ cells ++ x ∷ [] → r2' ≡ r2 → Sound 0 n todo w cells' kept at r0 r1 r2'
-found_more n x todo w cells cells' kept at r0 r1 r2 r2' s e f =
-    let k = s.known in
-    let m : length cells' ≡ length cells + 1 = ap length e ∙ length_push cells x in
-    record { plane = s.plane; pending = s.pending; waiting = s.waiting; room0 = omega (arith, s.room0); room1 = omega (arith, s.room1); room2 = omega (arith, s.room2); known = omega arith; position = s.position }
-
-pub found_go : (go : List Found → List Found → Next) (x : Found) (cells cells' : List Found) (kept : ℕ) → kept ≤ length cells → cells' ≡ cells ++ x ∷ [] → go (take kept cells') (drop kept cells') ≡ go (take kept cells) (drop kept cells ++ x ∷ [])
-found_go go x cells cells' kept k e = rw (e, take-append-le kept cells (x ∷ []) k, drop-append-le kept cells (x ∷ []) k) refl
-
--- a bit came
-pub bit_more : (n : ℕ) (todo w : List Part) (cells : List Found) (kept at r0 r1 r2 : ℕ) → Sound 0 n todo w cells kept at r0 r1 r2 → at < kept → Sound 0 n todo w cells kept (at + 1) r0 r1 r2
-bit_more n todo w cells kept at r0 r1 r2 s h = record { plane = s.plane; pending = s.pending; waiting = s.waiting; room0 = s.room0; room1 = s.room1; room2 = s.room2; known = s.known; position = omega arith }
-
-pub bit_done : (cells : List Found) (at : ℕ) → at < length cells → take (at + 1) cells ≡ take at cells ++ get_or cells at blank ∷ []
-bit_done cells at h = take_more cells at blank h

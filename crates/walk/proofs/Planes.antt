@@ -94,19 +94,6 @@ pub enter_zero : (n : ℕ) (w : List Part) (f : List Found) → n ≡ 0 → fini
 unfolding enter_plane
 enter_zero n w f e = rw e refl
 
-pub turn_bit : (n i kept : ℕ) (w : List Part) (f : List Found) → i < kept → kept ≤ length f → refinement n (get_or f i blank) (drop (i + 1) (take kept f)) (take i f) w (drop kept f) ≡ refine_on_by (enter_plane n) n (drop i (take kept f)) (take i f) w (drop kept f)
-turn_bit n i kept w f h k =
-    let m = length-take-le kept f k in
-    let e : drop i (take kept f) ≡ get_or f i blank ∷ drop (i + 1) (take kept f) = drop_more (take kept f) i blank (omega arith) ∙ ap (λ x. x ∷ drop (i + 1) (take kept f)) (get_or-take kept f i blank h) in
-    sym (ap (λ t. refine_on_by (enter_plane n) n t (take i f) w (drop kept f)) e)
-
-pub turn_end : (n i kept : ℕ) (w : List Part) (f : List Found) → i ≡ kept → kept ≤ length f → enter_plane n w f ≡ refine_on_by (enter_plane n) n (drop i (take kept f)) (take i f) w (drop kept f)
-turn_end n i kept w f h k =
-    let m = length-take-le kept f k in
-    let e : drop i (take kept f) ≡ [] = drop_all i (take kept f) (omega arith) in
-    let g : take i f ++ drop kept f ≡ f = ap (λ j. take j f ++ drop kept f) h ∙ take-append-drop kept f in
-    sym (ap (λ t. refine_on_by (enter_plane n) n t (take i f) w (drop kept f)) e ∙ ap (enter_plane n w) g)
-
 -- the first question of all
 pub first_state : (x k n remaining kept : ℕ) (todo noes : List Part) (cells : List Found) → todo ≡ outside k x → noes ≡ [] → cells ≡ [] → kept ≡ 0 → remaining ≡ length (outside k x) → owing n (Block x 0 0) (take remaining todo) (drop remaining todo) noes (take kept cells) (drop kept cells) ≡ start x k (n + 1)
 first_state x k n remaining kept todo noes cells e f g h i = rw (e, f, g, h, i, take_all (length (outside k x)) (outside k x) (omega arith), drop_all (length (outside k x)) (outside k x) (omega arith), add-one) refl
