@@ -1,21 +1,18 @@
 -- Parts and their parts, and the room for them.
-use Rattle.std.proofs.Common.{◌≡◌, ℕ, zero, suc, ◌+◌, ◌-◌, ◌*◌, ◌^◌, ◌<◌, ◌≤◌, List, [], ◌∷◌, ◌++◌, length, zero-add, add-one, refl, ap, ◌∙◌, subst, mul_assoc, mul_comm, arith, pow_mono}
+use Rattle.std.proofs.Common.{◌≡◌, ℕ, zero, suc, ◌+◌, ◌-◌, ◌*◌, ◌^◌, ◌<◌, ◌≤◌, List, [], ◌∷◌, ◌++◌, length, sum_by, zero-add, add-one, refl, ap, ◌∙◌, subst, mul_assoc, mul_comm, arith, pow_mono}
+use Rattle.std.proofs.lemmas.List.Sums.{sum_by-append, sum_by-cons}
 use native.Mathlib.Nat.{pow-succ'}
 use Rattle.speck.specs.declared.Part.{Part}
 use Rattle.speck.specs.declared.Part.TheVariants.{Block, Rest}
 use Rattle.speck.specs.Survey.{Found}
 use Rattle.speck.specs.Grid.{parts, view, outside}
 use Rattle.std.specs.List.{AllByRecursion}
-use Rattle.walk.specs.Parts.{Within, ring, area, areas}
+use Rattle.walk.specs.Parts.{Within, ring, area}
 use Rattle.walk.specs.Layout.{Sound}
 
 pub all_append : {X : Type 0} (P : X → Type 0) (xs ys : List X) → AllByRecursion P xs → AllByRecursion P ys → AllByRecursion P (xs ++ ys)
 all_append P [] ys a b = b
 all_append P (x ∷ xs) ys a b = (a.0, all_append P xs ys a.1 b)
-
-pub areas_append : (xs ys : List Part) → areas (xs ++ ys) ≡ areas xs + areas ys
-areas_append [] ys = omega arith
-areas_append (x ∷ xs) ys = omega (arith, areas_append xs ys)
 
 four_pos : (s : ℕ) → 0 < 4 ^ s
 four_pos zero = omega arith
@@ -29,14 +26,14 @@ pub area_pos : (p : Part) → 0 < area p
 area_pos (Block s r c) = four_pos s
 area_pos (Rest d x) = ring_pos d x
 
-pub length_areas : (ps : List Part) → length ps ≤ areas ps
+pub length_areas : (ps : List Part) → length ps ≤ sum_by area ps
 length_areas [] = omega arith
-length_areas (p ∷ ps) = omega (arith, area_pos p, length_areas ps)
+length_areas (p ∷ ps) = omega (arith, sum_by-cons area p ps, area_pos p, length_areas ps)
 
 -- a part that is no cell, and its parts
 pub record Spreads (p a : Part) (ks : List Part) : Type 0 where
   pub shown : view p ≡ parts a ks
-  pub size : area p ≡ area a + areas ks
+  pub size : area p ≡ area a + sum_by area ks
   pub first : Within a
   pub others : AllByRecursion Within ks
 
@@ -55,7 +52,7 @@ pub outside_within : (d x : ℕ) → x + d ≤ 6 → AllByRecursion Within (outs
 outside_within zero x h = tt
 outside_within (suc d) x h = (omega arith, tt)
 
-ring_outside : (d x : ℕ) → ring d x ≡ 3 * 4 ^ x + areas (outside d (suc x))
+ring_outside : (d x : ℕ) → ring d x ≡ 3 * 4 ^ x + sum_by area (outside d (suc x))
 ring_outside zero x = omega arith
 ring_outside (suc d) x = omega arith
 
@@ -63,6 +60,7 @@ pub spread_out : (d x : ℕ) → Within (Rest d x) → Spreads (Rest d x) (Block
 spread_out d x w =
     let a : 2 ^ suc x ≤ 2 ^ 6 = pow_mono {i = suc x} {j = 6} (omega arith) in
     let b : 2 ^ suc x ≡ 2 * 2 ^ x = pow-succ' 2 x in
+    let s = sum_by-append area (Block x (2 ^ x) 0 ∷ Block x (2 ^ x) (2 ^ x) ∷ []) (outside d (suc x)) in
     record { shown = refl; size = omega (arith, ring_outside d x); first = (omega arith, omega arith, omega arith); others = ((omega arith, omega arith, omega arith), ((omega arith, omega arith, omega arith), outside_within d (suc x) (omega arith))) }
 
 pub spread_rest : (p : Part) (d x : ℕ) → p ≡ Rest d x → Within p → Spreads p (Block x 0 (0 + 2 ^ x)) (Block x (0 + 2 ^ x) 0 ∷ Block x (0 + 2 ^ x) (0 + 2 ^ x) ∷ outside d (x + 1))
@@ -73,7 +71,7 @@ spread_room p a ks todo noes cells n kept at r0 r1 r2 e h = omega (arith, e.size
 
 pub spread_sound : (p a : Part) (ks todo noes : List Part) (cells : List Found) (n kept at r0 r1 r2 : ℕ) → Spreads p a ks → Sound (area p) n todo noes cells kept at r0 r1 r2 → Sound (area a) n (ks ++ todo) noes cells kept at r0 r1 r2
 spread_sound p a ks todo noes cells n kept at r0 r1 r2 e h =
-    let z = areas_append ks todo in
+    let z = sum_by-append area ks todo in
     record { plane = h.plane; pending = all_append Within ks todo e.others h.pending; waiting = h.waiting; room0 = omega (arith, e.size, h.room0); room1 = omega (arith, e.size, h.room1); room2 = omega (arith, e.size, h.room2); known = h.known; position = h.position }
 
 -- the square and what lies outside of it
@@ -81,6 +79,6 @@ ring_all : (d x : ℕ) → 4 ^ x + ring d x ≡ 4 ^ (x + suc d)
 ring_all zero x = let e : x + 1 ≡ suc x = omega arith in rw e (omega (arith, pow-succ' 4 x))
 ring_all (suc d) x = let e : x + suc (suc d) ≡ suc x + suc d = omega arith in rw e (omega (arith, ring_all d (suc x), pow-succ' 4 x))
 
-pub outside_all : (d x : ℕ) → 4 ^ x + areas (outside d x) ≡ 4 ^ (x + d)
+pub outside_all : (d x : ℕ) → 4 ^ x + sum_by area (outside d x) ≡ 4 ^ (x + d)
 outside_all zero x = let e : x + 0 ≡ x = omega arith in rw e (omega arith)
 outside_all (suc d) x = omega (arith, ring_all d x)

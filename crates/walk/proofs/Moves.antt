@@ -1,14 +1,15 @@
 -- What one answer does to the lists.
-use Rattle.std.proofs.Common.{◌≡◌, ℕ, suc, ◌+◌, ◌-◌, ◌<◌, ◌≤◌, false, List, [], ◌∷◌, ◌++◌, length, get_or, take, drop, sym, refl, ap, ◌∙◌, subst, arith}
+use Rattle.std.proofs.Common.{◌≡◌, ℕ, suc, ◌+◌, ◌-◌, ◌<◌, ◌≤◌, false, List, [], ◌∷◌, ◌++◌, length, sum_by, get_or, take, drop, sym, refl, ap, ◌∙◌, subst, arith}
 use Rattle.std.proofs.lemmas.List.{take-append-le, drop-append-le, length_push, take_more}
+use Rattle.std.proofs.lemmas.List.Sums.{sum_by_push}
 use Rattle.speck.specs.declared.Part.{Part}
 use Rattle.speck.specs.Survey.{Found}
 use Rattle.speck.specs.Machine.{Next, owing, going}
 use Rattle.speck.specs.Places.{place_step}
 use Rattle.std.specs.List.{AllByRecursion}
-use Rattle.walk.specs.Parts.{Within, area, areas}
+use Rattle.walk.specs.Parts.{Within, area}
 use Rattle.walk.specs.Layout.{Sound, blank}
-use Rattle.walk.proofs.Facts.{all_append, areas_append, area_pos, length_areas}
+use Rattle.walk.proofs.Facts.{all_append, area_pos, length_areas}
 
 -- a part said no
 pub insignificant_room : (n : ℕ) (p : Part) (todo w : List Part) (cells : List Found) (kept at r0 r1 r2 len : ℕ) → Sound (area p) n todo w cells kept at r0 r1 r2 → len ≡ length w → len < r1
@@ -16,7 +17,7 @@ insignificant_room n p todo w cells kept at r0 r1 r2 len s e = omega (arith, are
 
 pub insignificant_more : (n : ℕ) (p : Part) (todo w w' : List Part) (cells : List Found) (kept at r0 r1 r2 r1' : ℕ) → Sound (area p) n todo w cells kept at r0 r1 r2 → Within p → w' ≡ w ++ p ∷ [] → r1' ≡ r1 → Sound 0 n todo w' cells kept at r0 r1' r2
 insignificant_more n p todo w w' cells kept at r0 r1 r2 r1' s h e f =
-    let a : areas w' ≡ areas w + (area p + 0) = ap areas e ∙ areas_append w (p ∷ []) in
+    let a : sum_by area w' ≡ sum_by area w + area p = ap (sum_by area) e ∙ sum_by_push area w p in
     record { plane = s.plane; pending = s.pending; waiting = subst (AllByRecursion Within) (sym e) (all_append Within w (p ∷ []) s.waiting (h, tt)); room0 = omega (arith, s.room0); room1 = omega (arith, s.room1); room2 = omega (arith, s.room2); known = s.known; position = s.position }
 
 pub owed_no : (n : ℕ) (p p₁ : Part) (remaining : ℕ) (todo todo' w w' : List Part) (old new : List Found) → 0 < remaining → todo ≡ p₁ ∷ todo' → w' ≡ w ++ p ∷ [] → going (owing n p₁ (take (remaining - 1) todo') (drop (remaining - 1) todo') w' old new) ≡ place_step (owing n p (take remaining todo) (drop remaining todo) w old new) false

@@ -1,5 +1,8 @@
 -- The first question of a plane.
-use Rattle.std.proofs.Common.{◌≡◌, ℕ, zero, suc, ◌+◌, ◌-◌, ◌^◌, ◌<◌, ◌≤◌, true, false, cond, List, [], ◌∷◌, ◌++◌, length, get_or, take, drop, sym, refl, ap, ◌∙◌, append-nil, subst, add-one, arith, pow_mono}
+use Rattle.std.proofs.Common.{◌≡◌, ℕ, zero, suc, ◌+◌, ◌-◌, ◌^◌, ◌<◌, ◌≤◌, true, false, cond, List, [], ◌∷◌, ◌++◌, length, sum_by, get_or, take, drop, sym, refl, ap, ◌∙◌, append-nil, subst, add-one, arith, pow_mono}
+use Rattle.std.proofs.lemmas.List.Elements.{All-from_recursion, recursion_from_All}
+use Rattle.std.proofs.lemmas.List.Sorted.{All-permutation, length_permutation, sum_by-IsPermutation}
+use Rattle.std.proofs.lemmas.List.Sums.{sum_by-cons}
 use Rattle.speck.specs.Grid.{outside}
 use Rattle.speck.specs.declared.Part.TheVariants.{Block}
 use Rattle.std.proofs.lemmas.List.{take_all, drop_all, take-append-drop, nil_from_length, drop_more, length-take-le, get_or-take}
@@ -8,50 +11,26 @@ use Rattle.speck.specs.Survey.{Found}
 use Rattle.speck.specs.Survey.{insert, arranged, before}
 use Rattle.speck.specs.Machine.{owing, asking, refinement, finished, enter_plane, go_on_by, refine_on_by, start}
 use Rattle.std.specs.List.{AllByRecursion}
-use Rattle.walk.specs.Parts.{Within, area, areas}
+use Rattle.walk.specs.Parts.{Within, area}
 use Rattle.walk.specs.Piles.{Stack, laid}
 use Rattle.walk.specs.Layout.{Sound, blank}
 use Rattle.walk.proofs.Facts.{area_pos, length_areas, outside_all, outside_within}
-use Rattle.walk.proofs.Tiers.{length_arrange}
+use Rattle.speck.proofs.Lists.{arranged_moves}
 
 pub gathered : (w : List Part) (old new : Stack) → old.parts ≡ [] → new ≡ laid (arranged w) old → new.parts ≡ arranged w
 gathered w old new o t = ap (λ s. s.parts) t ∙ ap (λ l. arranged w ++ l) o ∙ append-nil (arranged w)
 
-areas_place : (p : Part) (l : List Part) → areas (insert p l) ≡ area p + areas l
-unfolding insert
-areas_place p [] = refl
-areas_place p (q ∷ l) =
-    let h = areas_place p l in
-    elim (before p q) as (λ b. areas (cond b (p ∷ q ∷ l) (q ∷ insert p l)) ≡ area p + (area q + areas l)) [ true ↦ refl | false ↦ omega arith ]
-
-pub areas_arrange : (l : List Part) → areas (arranged l) ≡ areas l
-unfolding arranged
-areas_arrange [] = refl
-areas_arrange (p ∷ l) = omega (arith, areas_place p (arranged l), areas_arrange l)
-
-all_place : (P : Part → Type 0) (p : Part) (l : List Part) → P p → AllByRecursion P l → AllByRecursion P (insert p l)
-unfolding insert
-all_place P p [] a b = (a, tt)
-all_place P p (q ∷ l) a b =
-    let h = all_place P p l a b.1 in
-    elim (before p q) as (λ t. AllByRecursion P (cond t (p ∷ q ∷ l) (q ∷ insert p l))) [ true ↦ (a, b) | false ↦ (b.0, h) ]
-
-pub all_arrange : (P : Part → Type 0) (l : List Part) → AllByRecursion P l → AllByRecursion P (arranged l)
-unfolding arranged
-all_arrange P [] a = tt
-all_arrange P (p ∷ l) a = all_place P p (arranged l) a.0 (all_arrange P l a.1)
-
 -- a plane ended: the next one's lists
 pub fresh : (n : ℕ) (w w' : List Part) (old new : Stack) (cells : List Found) (kept at kept' r1 r2 r1' : ℕ) → Sound 0 n old.parts w cells kept at old.room r1 r2 → at ≡ kept → 0 < n → old.parts ≡ [] → new ≡ laid (arranged w) old → w' ≡ [] → kept' ≡ length cells → r1' ≡ r1 → Sound 0 (n - 1) new.parts w' cells kept' 0 new.room r1' r2
 fresh n w w' old new cells kept at kept' r1 r2 r1' s a h o t z k f =
-    let y = areas_arrange w in
+    let m = arranged_moves w in
     let p : new.parts ≡ arranged w = gathered w old new o t in
-    let v : areas new.parts ≡ areas (arranged w) = ap areas p in
+    let v : sum_by area new.parts ≡ sum_by area w = ap (sum_by area) p ∙ sum_by-IsPermutation area w (arranged w) m in
     let q : new.room ≡ old.room = ap (λ x. x.room) t in
-    let u : areas w' ≡ 0 = ap areas z in
+    let u : sum_by area w' ≡ 0 = ap (sum_by area) z in
     record {
       plane = omega (arith, s.plane);
-      pending = subst (AllByRecursion Within) (sym p) (all_arrange Within w s.waiting);
+      pending = subst (AllByRecursion Within) (sym p) (recursion_from_All Within (arranged w) (All-permutation Within w (arranged w) m (All-from_recursion Within w s.waiting)));
       waiting = subst (AllByRecursion Within) (sym z) tt;
       room0 = omega (arith, s.room0);
       room1 = omega (arith, s.room1);
@@ -62,6 +41,7 @@ fresh n w w' old new cells kept at kept' r1 r2 r1' s a h o t z k f =
 
 pub drawn : (n : ℕ) (p : Part) (old new : Stack) (w : List Part) (cells : List Found) (kept at r1 r2 : ℕ) → Sound 0 n old.parts w cells kept at old.room r1 r2 → old ≡ laid (p ∷ []) new → Sound (area p) n new.parts w cells kept at new.room r1 r2 × Within p
 drawn n p old new w cells kept at r1 r2 s e =
+    let a = sum_by-cons area p new.parts in
     let t : Sound 0 n (p ∷ new.parts) w cells kept at new.room r1 r2 = subst (λ q. Sound 0 n q.parts w cells kept at q.room r1 r2) e s in
     (record { plane = t.plane; pending = t.pending.1; waiting = t.waiting; room0 = omega (arith, t.room0); room1 = omega (arith, t.room1); room2 = omega (arith, t.room2); known = t.known; position = t.position }, t.pending.0)
 
@@ -86,7 +66,7 @@ enter_none (suc n) = enter_none n
 
 pub enter_end : (n : ℕ) (w w' : List Part) (f : List Found) → arranged w ≡ [] → w' ≡ [] → length f ≡ 0 → finished w' f ≡ enter_plane n w f
 enter_end n w w' f a z k =
-    let x : w ≡ [] = nil_from_length w (sym (length_arrange w) ∙ ap length a) in
+    let x : w ≡ [] = nil_from_length w (sym (length_permutation w (arranged w) (arranged_moves w)) ∙ ap length a) in
     let y : f ≡ [] = nil_from_length f k in
     rw (x, y, z) (sym (enter_none n))
 

@@ -1,23 +1,13 @@
 -- One pass over the parts, from the last to the first.
 use Rattle.std.proofs.Common.{◌≡◌, ℕ, zero, suc, ◌+◌, ◌-◌, ◌<◌, ◌≤◌, true, false, cond, List, [], ◌∷◌, ◌++◌, length, sym, refl, ap, ◌∙◌, append_assoc, add-zero, zero-add, arith, length-append}
+use Rattle.std.proofs.lemmas.List.Sorted.{length_permutation}
 use Rattle.speck.specs.declared.Part.{Part}
 use Rattle.speck.specs.declared.Part.TheVariants.{Block, Rest}
 use Rattle.speck.specs.Survey.{insert, arranged, before, of_side, rests, tiers, Below}
 use Rattle.std.specs.List.{AllByRecursion}
 use Rattle.walk.specs.Parts.{Within}
 use Rattle.speck.proofs.Arrange.{arranges}
-
-length_place : (p : Part) (l : List Part) → length (insert p l) ≡ suc (length l)
-unfolding insert
-length_place p [] = refl
-length_place p (q ∷ l) =
-    let h = length_place p l in
-    elim (before p q) as (λ b. length (cond b (p ∷ q ∷ l) (q ∷ insert p l)) ≡ suc (suc (length l))) [ true ↦ refl | false ↦ ap suc h ]
-
-pub length_arrange : (l : List Part) → length (arranged l) ≡ length l
-unfolding arranged
-length_arrange [] = refl
-length_arrange (p ∷ l) = length_place p (arranged l) ∙ ap suc (length_arrange l)
+use Rattle.speck.proofs.Lists.{arranged_moves}
 
 pub below : (l : List Part) → AllByRecursion Within l → Below 7 l
 below [] a = tt
@@ -37,7 +27,7 @@ tiers_part (suc a) b k l =
     rw (e, n) (omega (arith, length_tiers b (a + k) l))
 
 pub whole : (l : List Part) → AllByRecursion Within l → length (tiers 0 7 l) + length (rests l) ≡ length l
-whole l a = sym (length-append (tiers 0 7 l) (rests l)) ∙ ap length (sym (arranges 7 l (below l a))) ∙ length_arrange l
+whole l a = sym (length-append (tiers 0 7 l) (rests l)) ∙ ap length (sym (arranges 7 l (below l a))) ∙ length_permutation l (arranged l) (arranged_moves l)
 
 pub next_tier : (s : ℕ) (l : List Part) → 0 < s → s ≤ 7 → tiers (s - 1) (7 - (s - 1)) l ≡ of_side (s - 1) l ++ tiers s (7 - s) l
 next_tier s l h k =

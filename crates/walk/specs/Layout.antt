@@ -1,5 +1,5 @@
 -- What the walk's fields stand for in the machine, and what holds of them.
-use Rattle.std.specs.Prelude.{◌≡◌, ℕ, ◌+◌, ◌<◌, ◌≤◌, List, [], map, length, take, drop, slice_index_or, Option, Some, None}
+use Rattle.std.specs.Prelude.{◌≡◌, ℕ, ◌+◌, ◌<◌, ◌≤◌, List, [], map, sum_by, length, take, drop, slice_index_or, Option, Some, None}
 use Rattle.std.specs.List.{AllByRecursion}
 use Rattle.speck.specs.declared.Part.{Part}
 use Rattle.speck.specs.Survey.{Found}
@@ -7,7 +7,7 @@ use Rattle.walk.specs.declared.asking.Asking.{Asking}
 use Rattle.walk.specs.declared.asking.Asking.TheVariants as asking'
 use Rattle.walk.specs.declared.lists.Cell.{Cell}
 use Rattle.walk.specs.declared.lists.Lists.{Lists}
-use Rattle.walk.specs.Parts.{Within, area, areas}
+use Rattle.walk.specs.Parts.{Within, area}
 use Rattle.speck.specs.Places.{placed}
 use Rattle.speck.specs.Machine.{State, Next, going, owing, asking, sign, refinement, finished}
 
@@ -50,9 +50,9 @@ pub record Sound (more : ℕ) (n : ℕ) (todo noes : List Part) (cells : List Fo
   pub plane : n ≤ 14
   pub pending : AllByRecursion Within todo
   pub waiting : AllByRecursion Within noes
-  pub room0 : more + areas todo + areas noes + length cells ≤ room₀
-  pub room1 : more + areas todo + areas noes + length cells ≤ room₁
-  pub room2 : more + areas todo + areas noes + length cells ≤ room₂
+  pub room0 : more + sum_by area todo + sum_by area noes + length cells ≤ room₀
+  pub room1 : more + sum_by area todo + sum_by area noes + length cells ≤ room₁
+  pub room2 : more + sum_by area todo + sum_by area noes + length cells ≤ room₂
   pub known : kept ≤ length cells
   pub position : at ≤ kept
 

@@ -21,10 +21,6 @@ abbrev pub area : Part → ℕ
 area (Block s r c) = 4 ^ s
 area (Rest d x) = ring d x
 
-abbrev pub areas : List Part → ℕ
-areas [] = 0
-areas (p ∷ ps) = area p + areas ps
-
 -- which refusal a fault of a bit is
 abbrev pub refusal_of : BitFault → Refusal
 refusal_of fault.Surplus = refusal.Surplus
