@@ -1,5 +1,5 @@
 -- Parts and their parts, and the room for them.
-use Rattle.std.proofs.Common.{◌≡◌, ℕ, zero, suc, ◌+◌, ◌-◌, ◌*◌, ◌^◌, ◌<◌, ◌≤◌, List, [], ◌∷◌, ◌++◌, length, sum_by, zero-add, add-one, refl, ap, ◌∙◌, subst, mul_assoc, mul_comm, arith, pow_mono}
+use Rattle.std.proofs.Common.{◌≡◌, ℕ, zero, suc, ◌+◌, ◌-◌, ◌*◌, ◌^◌, ◌<◌, ◌≤◌, List, [], ◌∷◌, ◌++◌, length, sum_by, zero-add, add-one, refl, ap, ◌∙◌, subst, arith, pow_mono}
 use Rattle.std.proofs.lemmas.List.Sums.{sum_by-append, sum_by-cons}
 use native.Mathlib.Nat.{pow-succ'}
 use Rattle.speck.specs.declared.Part.{Part}

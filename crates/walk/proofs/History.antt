@@ -1,5 +1,5 @@
 -- What the machine's laws say of a walk and the bits that it has taken.
-use Rattle.std.proofs.Common.{◌≡◌, ℕ, zero, suc, ◌+◌, Bool, List, [], ◌∷◌, ◌++◌, Ok, Err, Result, Option, sym, refl, ap, ◌∙◌, subst}
+use Rattle.std.proofs.Common.{◌≡◌, ℕ, zero, suc, ◌+◌, Bool, List, [], ◌∷◌, ◌++◌, Ok, Err, Result, sym, refl, ap, ◌∙◌, subst}
 use Rattle.speck.specs.Grid.{Grid}
 use Rattle.speck.specs.Machine.{State, owing, asking, sign, refinement, finished, Next, going, contradiction, surplus, Question, ask, feed, run, start, step}
 use Rattle.speck.specs.Laws.{AsksOn, BeginsASurvey}
@@ -11,11 +11,8 @@ use Rattle.speck.proofs.Bare.{places_suffice}
 use Rattle.speck.proofs.Consequences.{refused}
 use Rattle.speck.proofs.Trace.{IsOn, run_append, state_at}
 use Rattle.walk.specs.declared.Walk.{Walk}
-use Rattle.walk.specs.declared.asking.Asking.{Asking}
 use Rattle.walk.specs.declared.asking.BitFault.{BitFault}
 use Rattle.walk.specs.declared.asking.BitFault.TheVariants as fault
-use Rattle.walk.specs.declared.lists.Lists.{Lists}
-use Rattle.walk.specs.Layout.{state_in}
 use Rattle.walk.specs.Walks.{Follows, Judged, next_of, state_of}
 
 bare_start : (x k P : ℕ) → bare (start x k P) ≡ start x k P
@@ -50,9 +47,6 @@ asks_bare (asking n p free noes old new) g bits all h = h
 asks_bare (sign n r c free noes old new) g bits all h = h
 asks_bare (refinement n e todo done noes new) g bits all h = h
 asks_bare (finished noes old) g bits all h = h
-
-pub asked : {a d : Option Asking} (l : Lists) → a ≡ d → ask (state_in d l) ≡ ask (state_in a l)
-asked l h = sym (ap (λ i. ask (state_in i l)) h)
 
 -- the walk's question, after the first bits of a survey, is the survey's next
 pub asks_on : (w : Walk) (q : Question) → q ≡ ask (state_of w) → (x k P : ℕ) (bits : List Bool) (g : Grid) → Follows w x k P bits → Headed (x + k) P g → Prefix bits (survey x k P g) → AsksOn q g bits (survey x k P g)

@@ -1,14 +1,13 @@
 -- What one answer does to the lists.
-use Rattle.std.proofs.Common.{◌≡◌, ℕ, suc, ◌+◌, ◌-◌, ◌<◌, ◌≤◌, false, List, [], ◌∷◌, ◌++◌, length, sum_by, get_or, take, drop, sym, refl, ap, ◌∙◌, subst, arith}
-use Rattle.std.proofs.lemmas.List.{take-append-le, drop-append-le, length_push, take_more}
+use Rattle.std.proofs.Common.{◌≡◌, ℕ, suc, ◌+◌, ◌-◌, ◌<◌, false, List, [], ◌∷◌, ◌++◌, length, sum_by, take, drop, sym, ap, ◌∙◌, subst, arith}
 use Rattle.std.proofs.lemmas.List.Sums.{sum_by_push}
 use Rattle.speck.specs.declared.Part.{Part}
 use Rattle.speck.specs.Survey.{Found}
-use Rattle.speck.specs.Machine.{Next, owing, going}
+use Rattle.speck.specs.Machine.{owing, going}
 use Rattle.speck.specs.Places.{place_step}
 use Rattle.std.specs.List.{AllByRecursion}
 use Rattle.walk.specs.Parts.{Within, area}
-use Rattle.walk.specs.Layout.{Sound, blank}
+use Rattle.walk.specs.Layout.{Sound}
 use Rattle.walk.proofs.Facts.{all_append, area_pos, length_areas}
 
 -- a part said no

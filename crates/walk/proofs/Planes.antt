@@ -1,15 +1,15 @@
 -- The first question of a plane.
-use Rattle.std.proofs.Common.{◌≡◌, ℕ, zero, suc, ◌+◌, ◌-◌, ◌^◌, ◌<◌, ◌≤◌, true, false, cond, List, [], ◌∷◌, ◌++◌, length, sum_by, get_or, take, drop, sym, refl, ap, ◌∙◌, append-nil, subst, add-one, arith, pow_mono}
+use Rattle.std.proofs.Common.{◌≡◌, ℕ, zero, suc, ◌+◌, ◌-◌, ◌^◌, ◌<◌, ◌≤◌, List, [], ◌∷◌, ◌++◌, length, sum_by, get_or, take, drop, sym, refl, ap, ◌∙◌, append-nil, subst, add-one, arith, pow_mono}
 use Rattle.std.proofs.lemmas.List.Elements.{All-from_recursion, recursion_from_All}
 use Rattle.std.proofs.lemmas.List.Sorted.{All-permutation, length_permutation, sum_by-IsPermutation}
 use Rattle.std.proofs.lemmas.List.Sums.{sum_by-cons}
 use Rattle.speck.specs.Grid.{outside}
 use Rattle.speck.specs.declared.Part.TheVariants.{Block}
-use Rattle.std.proofs.lemmas.List.{take_all, drop_all, take-append-drop, nil_from_length, drop_more, length-take-le, get_or-take}
+use Rattle.std.proofs.lemmas.List.{take_all, drop_all, nil_from_length}
 use Rattle.speck.specs.declared.Part.{Part}
 use Rattle.speck.specs.Survey.{Found}
-use Rattle.speck.specs.Survey.{insert, arranged, before}
-use Rattle.speck.specs.Machine.{owing, asking, refinement, finished, enter_plane, go_on_by, refine_on_by, start}
+use Rattle.speck.specs.Survey.{arranged}
+use Rattle.speck.specs.Machine.{owing, asking, refinement, finished, enter_plane, go_on_by, start}
 use Rattle.std.specs.List.{AllByRecursion}
 use Rattle.walk.specs.Parts.{Within, area}
 use Rattle.walk.specs.Piles.{Stack, laid}

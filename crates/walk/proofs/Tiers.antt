@@ -1,9 +1,9 @@
 -- One pass over the parts, from the last to the first.
-use Rattle.std.proofs.Common.{◌≡◌, ℕ, zero, suc, ◌+◌, ◌-◌, ◌<◌, ◌≤◌, true, false, cond, List, [], ◌∷◌, ◌++◌, length, sym, refl, ap, ◌∙◌, append_assoc, add-zero, zero-add, arith, length-append}
+use Rattle.std.proofs.Common.{◌≡◌, ℕ, zero, suc, ◌+◌, ◌-◌, ◌<◌, ◌≤◌, List, [], ◌∷◌, ◌++◌, length, sym, ap, ◌∙◌, append_assoc, add-zero, zero-add, arith, length-append}
 use Rattle.std.proofs.lemmas.List.Sorted.{length_permutation}
 use Rattle.speck.specs.declared.Part.{Part}
 use Rattle.speck.specs.declared.Part.TheVariants.{Block, Rest}
-use Rattle.speck.specs.Survey.{insert, arranged, before, of_side, rests, tiers, Below}
+use Rattle.speck.specs.Survey.{arranged, of_side, rests, tiers, Below}
 use Rattle.std.specs.List.{AllByRecursion}
 use Rattle.walk.specs.Parts.{Within}
 use Rattle.speck.proofs.Arrange.{arranges}
