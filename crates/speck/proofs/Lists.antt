@@ -1,8 +1,10 @@
 -- Sums over lists of parts, and that arranging them only moves them.
-use Rattle.std.proofs.Common.{◌≡◌, ℕ, ◌+◌, true, false, cond, List, [], ◌∷◌, ◌++◌, sum_by, sym, refl, ◌∙◌, zero-add, arith}
+use Rattle.std.proofs.Common.{◌≡◌, ℕ, ◌+◌, true, false, cond, List, [], ◌∷◌, ◌++◌, sym, refl, ◌∙◌, zero-add, arith}
+use Rattle.std.specs.List.{AllByRecursion}
 use Rattle.std.specs.List.Sorted.{IsPermutation}
+use Rattle.std.proofs.lemmas.List.Elements.{All-from_recursion, recursion_from_All}
 use Rattle.std.proofs.lemmas.List.Recursion.{is_sum_by}
-use Rattle.std.proofs.lemmas.List.Sorted.{IsPermutation-refl, IsPermutation-cons, IsPermutation-middle, IsPermutation-trans, sum_by-IsPermutation}
+use Rattle.std.proofs.lemmas.List.Sorted.{All-permutation, IsPermutation-refl, IsPermutation-cons, IsPermutation-middle, IsPermutation-trans, sum_by-IsPermutation}
 use Rattle.speck.specs.declared.Part.{Part}
 use Rattle.speck.specs.Grid.{inside, coverage}
 use Rattle.speck.specs.Survey.{arranged, insert, before}
@@ -27,3 +29,11 @@ pub coverage_arrange : (ps : List Part) (i j : ℕ) → coverage (arranged ps) i
 coverage_arrange ps i j =
     let s = is_sum_by (λ qs. coverage qs i j) (λ p. inside p i j) refl (λ _ _. refl) in
     s (arranged ps) ∙ sum_by-IsPermutation (λ p. inside p i j) ps (arranged ps) (arranged_moves ps) ∙ sym (s ps)
+
+-- what holds of each
+pub each_append : {X : Type 0} (P : X → Type 0) (xs ys : List X) → AllByRecursion P xs → AllByRecursion P ys → AllByRecursion P (xs ++ ys)
+each_append P [] ys h k = k
+each_append P (x ∷ xs) ys h k = (h.0, each_append P xs ys h.1 k)
+
+pub each_arranged : (P : Part → Type 0) (ps : List Part) → AllByRecursion P ps → AllByRecursion P (arranged ps)
+each_arranged P ps h = recursion_from_All P (arranged ps) (All-permutation P ps (arranged ps) (arranged_moves ps) (All-from_recursion P ps h))

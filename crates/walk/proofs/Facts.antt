@@ -7,12 +7,9 @@ use Rattle.speck.specs.declared.Part.TheVariants.{Block, Rest}
 use Rattle.speck.specs.Survey.{Found}
 use Rattle.speck.specs.Grid.{parts, view, outside}
 use Rattle.std.specs.List.{AllByRecursion}
+use Rattle.speck.proofs.Lists.{each_append}
 use Rattle.walk.specs.Parts.{Within, ring, area}
 use Rattle.walk.specs.Layout.{Sound}
-
-pub all_append : {X : Type 0} (P : X → Type 0) (xs ys : List X) → AllByRecursion P xs → AllByRecursion P ys → AllByRecursion P (xs ++ ys)
-all_append P [] ys a b = b
-all_append P (x ∷ xs) ys a b = (a.0, all_append P xs ys a.1 b)
 
 four_pos : (s : ℕ) → 0 < 4 ^ s
 four_pos zero = omega arith
@@ -72,7 +69,7 @@ spread_room p a ks todo noes cells n kept at r0 r1 r2 e h = omega (arith, e.size
 pub spread_sound : (p a : Part) (ks todo noes : List Part) (cells : List Found) (n kept at r0 r1 r2 : ℕ) → Spreads p a ks → Sound (area p) n todo noes cells kept at r0 r1 r2 → Sound (area a) n (ks ++ todo) noes cells kept at r0 r1 r2
 spread_sound p a ks todo noes cells n kept at r0 r1 r2 e h =
     let z = sum_by-append area ks todo in
-    record { plane = h.plane; pending = all_append Within ks todo e.others h.pending; waiting = h.waiting; room0 = omega (arith, e.size, h.room0); room1 = omega (arith, e.size, h.room1); room2 = omega (arith, e.size, h.room2); known = h.known; position = h.position }
+    record { plane = h.plane; pending = each_append Within ks todo e.others h.pending; waiting = h.waiting; room0 = omega (arith, e.size, h.room0); room1 = omega (arith, e.size, h.room1); room2 = omega (arith, e.size, h.room2); known = h.known; position = h.position }
 
 -- the square and what lies outside of it
 ring_all : (d x : ℕ) → 4 ^ x + ring d x ≡ 4 ^ (x + suc d)

@@ -1,7 +1,6 @@
 -- The first question of a plane.
 use Rattle.std.proofs.Common.{◌≡◌, ℕ, zero, suc, ◌+◌, ◌-◌, ◌^◌, ◌<◌, ◌≤◌, List, [], ◌∷◌, ◌++◌, length, sum_by, get_or, take, drop, sym, refl, ap, ◌∙◌, append-nil, subst, add-one, arith, pow_mono}
-use Rattle.std.proofs.lemmas.List.Elements.{All-from_recursion, recursion_from_All}
-use Rattle.std.proofs.lemmas.List.Sorted.{All-permutation, length_permutation, sum_by-IsPermutation}
+use Rattle.std.proofs.lemmas.List.Sorted.{length_permutation, sum_by-IsPermutation}
 use Rattle.std.proofs.lemmas.List.Sums.{sum_by-cons}
 use Rattle.speck.specs.Grid.{outside}
 use Rattle.speck.specs.declared.Part.TheVariants.{Block}
@@ -15,7 +14,7 @@ use Rattle.walk.specs.Parts.{Within, area}
 use Rattle.walk.specs.Piles.{Stack, laid}
 use Rattle.walk.specs.Layout.{Sound, blank}
 use Rattle.walk.proofs.Facts.{area_pos, length_areas, outside_all, outside_within}
-use Rattle.speck.proofs.Lists.{arranged_moves}
+use Rattle.speck.proofs.Lists.{arranged_moves, each_arranged}
 
 pub gathered : (w : List Part) (old new : Stack) → old.parts ≡ [] → new ≡ laid (arranged w) old → new.parts ≡ arranged w
 gathered w old new o t = ap (λ s. s.parts) t ∙ ap (λ l. arranged w ++ l) o ∙ append-nil (arranged w)
@@ -30,7 +29,7 @@ fresh n w w' old new cells kept at kept' r1 r2 r1' s a h o t z k f =
     let u : sum_by area w' ≡ 0 = ap (sum_by area) z in
     record {
       plane = omega (arith, s.plane);
-      pending = subst (AllByRecursion Within) (sym p) (recursion_from_All Within (arranged w) (All-permutation Within w (arranged w) m (All-from_recursion Within w s.waiting)));
+      pending = subst (AllByRecursion Within) (sym p) (each_arranged Within w s.waiting);
       waiting = subst (AllByRecursion Within) (sym z) tt;
       room0 = omega (arith, s.room0);
       room1 = omega (arith, s.room1);
