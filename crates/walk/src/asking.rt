@@ -19,7 +19,7 @@ pub(crate) enum Asking {
     Refinement,
 }
 
-// The question that the next bit answers.
+// The question that the next bit answers. Row and column stand apart, since a ground takes them as two numbers of its own type.
 #[derive(Clone, Copy, PartialEq, Eq, Debug)]
 pub enum Question {
     // Has some cell of the part a magnitude of 2^plane or more?

@@ -9,6 +9,7 @@ use super::*;
 use crate::asking::*;
 use std::alloc::{AllocError, Global};
 
+// The moves are the lists' and answer what is asked next: those of a walk would have to be told what it asks already.
 impl Lists {
     pub(crate) fn open(heap: Global, room: usize, plane: u8) -> Result<Lists, AllocError>
         ensures { IfOk result (λ l. Opened room plane l) }
