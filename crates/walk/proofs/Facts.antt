@@ -1,15 +1,12 @@
 -- Parts and their parts, and the room for them.
-use Rattle.std.proofs.Common.{◌≡◌, ℕ, zero, suc, ◌+◌, ◌-◌, ◌*◌, ◌^◌, ◌<◌, ◌≤◌, List, [], ◌∷◌, ◌++◌, length, sum_by, zero-add, add-one, refl, ap, ◌∙◌, subst, arith, pow_mono}
+use Rattle.std.proofs.Common.{◌≡◌, ℕ, zero, suc, ◌+◌, ◌-◌, ◌*◌, ◌^◌, ◌<◌, ◌≤◌, List, [], ◌∷◌, length, sum_by, zero-add, add-one, refl, ap, ◌∙◌, subst, arith, pow_mono}
 use Rattle.std.proofs.lemmas.List.Sums.{sum_by-append, sum_by-cons}
 use native.Mathlib.Nat.{pow-succ'}
 use Rattle.speck.specs.declared.Part.{Part}
 use Rattle.speck.specs.declared.Part.TheVariants.{Block, Rest}
-use Rattle.speck.specs.Survey.{Found}
 use Rattle.speck.specs.Grid.{parts, view, outside}
 use Rattle.std.specs.List.{AllByRecursion}
-use Rattle.speck.proofs.Lists.{each_append}
 use Rattle.walk.specs.Parts.{Within, ring, area}
-use Rattle.walk.specs.Layout.{Sound}
 
 four_pos : (s : ℕ) → 0 < 4 ^ s
 four_pos zero = omega arith
@@ -62,14 +59,6 @@ spread_out d x w =
 
 pub spread_rest : (p : Part) (d x : ℕ) → p ≡ Rest d x → Within p → Spreads p (Block x 0 (0 + 2 ^ x)) (Block x (0 + 2 ^ x) 0 ∷ Block x (0 + 2 ^ x) (0 + 2 ^ x) ∷ outside d (x + 1))
 spread_rest p d x e w = rw (e, zero-add, add-one) (spread_out d x (subst Within e w))
-
-pub spread_room : (p a : Part) (ks todo noes : List Part) (cells : List Found) (n kept at r0 r1 r2 : ℕ) → Spreads p a ks → Sound (area p) n todo noes cells kept at r0 r1 r2 → length ks + length todo < r0
-spread_room p a ks todo noes cells n kept at r0 r1 r2 e h = omega (arith, e.size, h.room0, area_pos a, length_areas ks, length_areas todo)
-
-pub spread_sound : (p a : Part) (ks todo noes : List Part) (cells : List Found) (n kept at r0 r1 r2 : ℕ) → Spreads p a ks → Sound (area p) n todo noes cells kept at r0 r1 r2 → Sound (area a) n (ks ++ todo) noes cells kept at r0 r1 r2
-spread_sound p a ks todo noes cells n kept at r0 r1 r2 e h =
-    let z = sum_by-append area ks todo in
-    record { plane = h.plane; pending = each_append Within ks todo e.others h.pending; waiting = h.waiting; room0 = omega (arith, e.size, h.room0); room1 = omega (arith, e.size, h.room1); room2 = omega (arith, e.size, h.room2); known = h.known; position = h.position }
 
 -- the square and what lies outside of it
 ring_all : (d x : ℕ) → 4 ^ x + ring d x ≡ 4 ^ (x + suc d)

@@ -9,10 +9,12 @@ use Rattle.speck.specs.declared.Part.{Part}
 use Rattle.speck.specs.Survey.{Found}
 use Rattle.speck.specs.Survey.{arranged}
 use Rattle.speck.specs.Machine.{owing, asking, refinement, finished, enter_plane, go_on_by, start}
+use Rattle.std.specs.Global.{Vec}
 use Rattle.std.specs.List.{AllByRecursion}
 use Rattle.walk.specs.Parts.{Within, area}
 use Rattle.walk.specs.Piles.{Stack, laid}
-use Rattle.walk.specs.Layout.{Sound, blank}
+use Rattle.walk.specs.declared.lists.Lists.{Lists}
+use Rattle.walk.specs.Layout.{Sound, Held, Opened, blank, cells_of, noes_of, todo_of}
 use Rattle.walk.proofs.Facts.{area_pos, length_areas, outside_all, outside_within}
 use Rattle.speck.proofs.Lists.{arranged_moves, each_arranged}
 
@@ -20,29 +22,27 @@ pub gathered : (w : List Part) (old new : Stack) → old.parts ≡ [] → new �
 gathered w old new o t = ap (λ s. s.parts) t ∙ ap (λ l. arranged w ++ l) o ∙ append-nil (arranged w)
 
 -- a plane ended: the next one's lists
-pub fresh : (n : ℕ) (w w' : List Part) (old new : Stack) (cells : List Found) (kept at kept' r1 r2 r1' : ℕ) → Sound 0 n old.parts w cells kept at old.room r1 r2 → at ≡ kept → 0 < n → old.parts ≡ [] → new ≡ laid (arranged w) old → w' ≡ [] → kept' ≡ length cells → r1' ≡ r1 → Sound 0 (n - 1) new.parts w' cells kept' 0 new.room r1' r2
-fresh n w w' old new cells kept at kept' r1 r2 r1' s a h o t z k f =
-    let m = arranged_moves w in
-    let p : new.parts ≡ arranged w = gathered w old new o t in
-    let v : sum_by area new.parts ≡ sum_by area w = ap (sum_by area) p ∙ sum_by-IsPermutation area w (arranged w) m in
-    let q : new.room ≡ old.room = ap (λ x. x.room) t in
-    let u : sum_by area w' ≡ 0 = ap (sum_by area) z in
+pub fresh : (l : Lists) (q : Stack) (v : Vec Part) (kept : ℕ) → Sound 0 l → l.at ≡ l.kept → 0 < l.plane → todo_of l ≡ [] → q ≡ laid (arranged (noes_of l)) l.pending → v.items ≡ [] → v.cap ≡ l.waiting.cap → kept ≡ length (cells_of l) → Sound 0 (record { plane = l.plane - 1; pending = q; waiting = v; found = l.found; kept = kept; at = 0 })
+fresh l q v kept s a h o t z f k =
+    let w = noes_of l in
+    let p : q.parts ≡ arranged w = gathered w l.pending q o t in
+    let i : sum_by area q.parts ≡ sum_by area w = ap (sum_by area) p ∙ sum_by-IsPermutation area w (arranged w) (arranged_moves w) in
+    let j : q.room ≡ l.pending.room = ap (λ x. x.room) t in
+    let u : sum_by area v.items ≡ 0 = ap (sum_by area) z in
     record {
       plane = omega (arith, s.plane);
       pending = subst (AllByRecursion Within) (sym p) (each_arranged Within w s.waiting);
       waiting = subst (AllByRecursion Within) (sym z) tt;
-      room0 = omega (arith, s.room0);
-      room1 = omega (arith, s.room1);
-      room2 = omega (arith, s.room2);
+      room = record { pending = omega (arith, s.room.pending); waiting = omega (arith, s.room.waiting); found = omega (arith, s.room.found) };
       known = omega arith;
       position = omega arith;
     }
 
-pub drawn : (n : ℕ) (p : Part) (old new : Stack) (w : List Part) (cells : List Found) (kept at r1 r2 : ℕ) → Sound 0 n old.parts w cells kept at old.room r1 r2 → old ≡ laid (p ∷ []) new → Sound (area p) n new.parts w cells kept at new.room r1 r2 × Within p
-drawn n p old new w cells kept at r1 r2 s e =
-    let a = sum_by-cons area p new.parts in
-    let t : Sound 0 n (p ∷ new.parts) w cells kept at new.room r1 r2 = subst (λ q. Sound 0 n q.parts w cells kept at q.room r1 r2) e s in
-    (record { plane = t.plane; pending = t.pending.1; waiting = t.waiting; room0 = omega (arith, t.room0); room1 = omega (arith, t.room1); room2 = omega (arith, t.room2); known = t.known; position = t.position }, t.pending.0)
+pub drawn : (l : Lists) (p : Part) (q : Stack) → Sound 0 l → l.at ≡ 0 → l.pending ≡ laid (p ∷ []) q → Held p (record l { pending = q })
+drawn l p q s a e =
+    let c = sum_by-cons area p q.parts in
+    let t : Sound 0 (record l { pending = laid (p ∷ []) q }) = subst (λ x. Sound 0 (record l { pending = x })) e s in
+    record { sorts = record { sound = record { plane = t.plane; pending = t.pending.1; waiting = t.waiting; room = record { pending = omega (arith, t.room.pending); waiting = omega (arith, t.room.waiting); found = omega (arith, t.room.found) }; known = t.known; position = t.position }; at = a }; within = t.pending.0 }
 
 -- what the machine asks then
 pub enter_part : (n : ℕ) (p : Part) (todo w w' : List Part) (f : List Found) (kept : ℕ) → 0 < n → arranged w ≡ p ∷ todo → w' ≡ [] → kept ≡ length f → asking (n - 1) p todo w' (take kept f) (drop kept f) ≡ enter_plane n w f
@@ -77,9 +77,12 @@ enter_zero n w f e = rw e refl
 pub first_state : (x k n remaining kept : ℕ) (todo noes : List Part) (cells : List Found) → todo ≡ outside k x → noes ≡ [] → cells ≡ [] → kept ≡ 0 → remaining ≡ length (outside k x) → owing n (Block x 0 0) (take remaining todo) (drop remaining todo) noes (take kept cells) (drop kept cells) ≡ start x k (n + 1)
 first_state x k n remaining kept todo noes cells e f g h i = rw (e, f, g, h, i, take_all (length (outside k x)) (outside k x) (omega arith), drop_all (length (outside k x)) (outside k x) (omega arith), add-one) refl
 
-pub first_sound : (x k n kept at r0 r1 r2 : ℕ) (todo noes : List Part) (cells : List Found) → n ≤ 14 → x + k ≤ 6 → todo ≡ outside k x → noes ≡ [] → cells ≡ [] → kept ≡ 0 → at ≡ 0 → 4 ^ (x + k) ≤ r0 → 4 ^ (x + k) ≤ r1 → 4 ^ (x + k) ≤ r2 → Sound (4 ^ x) n todo noes cells kept at r0 r1 r2
-first_sound x k n kept at r0 r1 r2 todo noes cells h w e f g i j a b c =
-    rw (e, f, g, i, j) (record { plane = h; pending = outside_within k x w; waiting = tt; room0 = omega (arith, outside_all k x); room1 = omega (arith, outside_all k x); room2 = omega (arith, outside_all k x); known = omega arith; position = omega arith })
+pub first_sound : (l : Lists) (x k n : ℕ) (q : Stack) → Opened (4 ^ (x + k)) n l → l.plane ≤ 14 → x + k ≤ 6 → q.parts ≡ outside k x → q.room ≡ l.pending.room → Sound (4 ^ x) (record l { pending = q })
+first_sound l x k n q o h w t r =
+    let a : 4 ^ x + sum_by area q.parts ≡ 4 ^ (x + k) = ap (λ ps. 4 ^ x + sum_by area ps) t ∙ outside_all k x in
+    let b : sum_by area (noes_of l) ≡ 0 = ap (sum_by area) o.noes in
+    let c : length (cells_of l) ≡ 0 = ap length o.cells in
+    record { plane = h; pending = subst (AllByRecursion Within) (sym t) (outside_within k x w); waiting = subst (AllByRecursion Within) (sym o.noes) tt; room = record { pending = omega (arith, o.room.pending); waiting = omega (arith, o.room.waiting); found = omega (arith, o.room.found) }; known = omega (arith, o.kept); position = omega (arith, o.kept, o.at) }
 
 pub first_within : (x k : ℕ) → x + k ≤ 6 → Within (Block x 0 0)
 first_within x k h = let m : 2 ^ x ≤ 2 ^ 6 = pow_mono {i = x} {j = 6} (omega arith) in (omega arith, omega arith, omega arith)

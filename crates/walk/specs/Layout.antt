@@ -35,47 +35,43 @@ done_of l = take l.at (cells_of l)
 abbrev pub blank : Found
 blank = placed 0 0
 
-abbrev pub state_by : Option Asking → ℕ → List Part → List Part → List Found → ℕ → ℕ → State
-state_by (Some (asking'.Part p)) n todo noes cells kept at = asking n p todo noes (take kept cells) (drop kept cells)
-state_by (Some (asking'.Quarter p k)) n todo noes cells kept at = owing n p (take k todo) (drop k todo) noes (take kept cells) (drop kept cells)
-state_by (Some (asking'.Sign c)) n todo noes cells kept at = sign n c.row c.column todo noes (take kept cells) (drop kept cells)
-state_by (Some asking'.Refinement) n todo noes cells kept at = refinement n (slice_index_or cells at blank) (drop (at + 1) (take kept cells)) (take at cells) noes (drop kept cells)
-state_by None n todo noes cells kept at = finished noes cells
-
 abbrev pub state_in : Option Asking → Lists → State
-state_in a l = state_by a l.plane (todo_of l) (noes_of l) (cells_of l) l.kept l.at
+state_in (Some (asking'.Part p)) l = asking l.plane p (todo_of l) (noes_of l) (old_of l) (new_of l)
+state_in (Some (asking'.Quarter p k)) l = owing l.plane p (take k (todo_of l)) (drop k (todo_of l)) (noes_of l) (old_of l) (new_of l)
+state_in (Some (asking'.Sign c)) l = sign l.plane c.row c.column (todo_of l) (noes_of l) (old_of l) (new_of l)
+state_in (Some asking'.Refinement) l = refinement l.plane (slice_index_or (cells_of l) l.at blank) (drop (l.at + 1) (old_of l)) (done_of l) (noes_of l) (new_of l)
+state_in None l = finished (noes_of l) (cells_of l)
+
+-- each of the three lists has room for so many
+pub record RoomFor (n : ℕ) (l : Lists) : Type 0 where
+  pub pending : n ≤ l.pending.room
+  pub waiting : n ≤ l.waiting.cap
+  pub found : n ≤ l.found.cap
 
 -- there is room for what is pending, what was waiting, what was found and so many more cells
-pub record Sound (more : ℕ) (n : ℕ) (todo noes : List Part) (cells : List Found) (kept at room₀ room₁ room₂ : ℕ) : Type 0 where
-  pub plane : n ≤ 14
-  pub pending : AllByRecursion Within todo
-  pub waiting : AllByRecursion Within noes
-  pub room0 : more + sum_by area todo + sum_by area noes + length cells ≤ room₀
-  pub room1 : more + sum_by area todo + sum_by area noes + length cells ≤ room₁
-  pub room2 : more + sum_by area todo + sum_by area noes + length cells ≤ room₂
-  pub known : kept ≤ length cells
-  pub position : at ≤ kept
+pub record Sound (more : ℕ) (l : Lists) : Type 0 where
+  pub plane : l.plane ≤ 14
+  pub pending : AllByRecursion Within (todo_of l)
+  pub waiting : AllByRecursion Within (noes_of l)
+  pub room : RoomFor (more + sum_by area (todo_of l) + sum_by area (noes_of l) + length (cells_of l)) l
+  pub known : l.kept ≤ length (cells_of l)
+  pub position : l.at ≤ l.kept
 
-abbrev pub SoundIn : ℕ → Lists → Type 0
-SoundIn more l = Sound more l.plane (todo_of l) (noes_of l) (cells_of l) l.kept l.at (l.pending.room) l.waiting.cap l.found.cap
-
-pub record Opened (room n : ℕ) (l : Lists) : Type 0 where
+pub record Opened (size n : ℕ) (l : Lists) : Type 0 where
   pub plane : l.plane ≡ n
   pub todo : todo_of l ≡ []
   pub noes : noes_of l ≡ []
   pub cells : cells_of l ≡ []
   pub kept : l.kept ≡ 0
   pub at : l.at ≡ 0
-  pub room0 : room ≤ l.pending.room
-  pub room1 : room ≤ l.waiting.cap
-  pub room2 : room ≤ l.found.cap
+  pub room : RoomFor size l
 
 pub record Sorts (more : ℕ) (l : Lists) : Type 0 where
-  pub sound : SoundIn more l
+  pub sound : Sound more l
   pub at : l.at ≡ 0
 
 pub record Refines (l : Lists) : Type 0 where
-  pub sound : SoundIn 0 l
+  pub sound : Sound 0 l
   pub none : length (todo_of l) ≡ 0
   pub at : l.at < l.kept
 

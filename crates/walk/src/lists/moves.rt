@@ -3,7 +3,7 @@ ghost use Rattle.speck.specs.Grid.{outside};
 ghost use Rattle.speck.specs.Places.{place_step};
 ghost use Rattle.speck.specs.Machine.{enter_plane, refine_on, go_on, going, start};
 ghost use Rattle.walk.specs.Parts.{Within};
-ghost use Rattle.walk.specs.Layout.{todo_of, noes_of, cells_of, old_of, new_of, done_of, state_in, SoundIn, Sorts, Good, Now, Opened};
+ghost use Rattle.walk.specs.Layout.{todo_of, noes_of, cells_of, old_of, new_of, done_of, state_in, Sound, Sorts, Good, Now, Opened};
 
 use super::*;
 use crate::asking::*;
@@ -105,7 +105,7 @@ impl Lists {
 
     // The next bit of a found cell, or else the next plane.
     fn refine_on(&mut self) -> Option<Asking>
-        requires sound { SoundIn 0 self.old }
+        requires sound { Sound 0 self.old }
         requires none { todo_of self.old ≡ [] }
         ensures { Now result self.new (going (refine_on self.old.plane (drop self.old.at (old_of self.old)) (done_of self.old) (noes_of self.old) (new_of self.old))) }
     {
@@ -118,7 +118,7 @@ impl Lists {
 
     // The first question of the next plane, if it is not the last one.
     fn next_plane(&mut self) -> Option<Asking>
-        requires sound { SoundIn 0 self.old }
+        requires sound { Sound 0 self.old }
         requires none { todo_of self.old ≡ [] }
         requires at { self.old.at ≡ self.old.kept }
         ensures { Now result self.new (going (enter_plane self.old.plane (noes_of self.old) (cells_of self.old))) }

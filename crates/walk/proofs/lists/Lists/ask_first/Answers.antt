@@ -11,7 +11,7 @@ use Rattle.walk.proofs.lists.Lists.ask_first.Goals as goal
 pub put_all-requires-clause-room : goal.put_all-requires-clause-room
 put_all-requires-clause-room c =
     let o = c.requires.opened in
-    chain_room c.args.self.now.pending (outside c.args.levels c.args.side) (YieldsList-from_once c.outside-rest.result c.into_iter.ensures.into_iter_gives.0) (reverse-option _ _ c.outside-rest.ensures) (omega (arith, ap length o.todo, first_room c.args.levels c.args.side, o.room0))
+    chain_room c.args.self.now.pending (outside c.args.levels c.args.side) (YieldsList-from_once c.outside-rest.result c.into_iter.ensures.into_iter_gives.0) (reverse-option _ _ c.outside-rest.ensures) (omega (arith, ap length o.todo, first_room c.args.levels c.args.side, o.room.pending))
 
 pub returns : goal.returns
 returns c =
@@ -23,5 +23,5 @@ returns c =
     let n = length-option c.outside-rest.result (outside c.args.levels c.args.side) c.from.result c.outside-rest.ensures (c.from.ensures ∙ ap bool_byte c.is_some.ensures) in
     record {
       state = ap going (first_state c.args.side c.args.levels l.plane c.from.result l.kept q.parts l.waiting.items (cells_of l) t o.noes o.cells o.kept n);
-      good = (record { sorts = record { sound = first_sound c.args.side c.args.levels l.plane l.kept l.at q.room l.waiting.cap l.found.cap q.parts l.waiting.items (cells_of l) c.requires.plane c.requires.side t o.noes o.cells o.kept o.at (omega (arith, o.room0, ap (λ s. s.room) e)) o.room1 o.room2; at = o.at }; within = first_within c.args.side c.args.levels c.requires.side }, omega (arith, ap length t, n));
+      good = (record { sorts = record { sound = first_sound l c.args.side c.args.levels l.plane q o c.requires.plane c.requires.side t (ap (λ s. s.room) e); at = o.at }; within = first_within c.args.side c.args.levels c.requires.side }, omega (arith, ap length t, n));
     }
