@@ -1,11 +1,20 @@
 -- What a chain of parts leaves on a pile.
-use Rattle.std.proofs.Common.{◌≡◌, ℕ, ◌≤◌, Bool, true, false, cond, List, [], ◌∷◌, ◌++◌, filter, length, reverse, Some, None, Option, sym, refl, ap, ◌∙◌, append_assoc, arith}
+use Rattle.std.proofs.Common.{◌≡◌, ℕ, ◌≤◌, Bool, true, false, cond, List, [], ◌∷◌, ◌++◌, filter, length, reverse, Some, None, Option, Iter, sym, refl, ap, ◌∙◌, append_assoc, arith}
 use Rattle.std.specs.Option.{option_to_list, is_some}
 use mir.Val.{bool_byte}
 use Rattle.std.specs.Iterator.{Yields, Drains}
 use Rattle.std.proofs.lemmas.Iterator.{YieldsList}
-use Rattle.std.proofs.lemmas.Iterator.Adapters.{at_most_from_yields_List}
-use Rattle.std.proofs.lemmas.Iterator.Consumers.{YieldsList-end}
+use denote.Param.Members.{Mut}
+use denote.Ref.{Bor}
+use Rattle.std.specs.declared.iter.Copied.{Copied}
+use Rattle.std.specs.declared.iter.Filter.{Filter}
+use Rattle.std.specs.declared.iter.Rev.{Rev}
+use Rattle.std.specs.Fn.{CalledAt}
+use Rattle.std.specs.Iterator.Adapters.{copied_source, filter_source, filter_callee, filter_steps, rev_source, rev_steps}
+use Rattle.std.specs.Slice.Iter.{iter_rest, iter_steps_back}
+use Rattle.std.proofs.iter.Yields.{copies}
+use Rattle.std.proofs.lemmas.Iterator.Adapters.{YieldsList-from_rev_slice, at_most_from_yields_List}
+use Rattle.std.proofs.lemmas.Iterator.Consumers.{YieldsList-at, YieldsList-end, YieldsList-from_copied, YieldsList-from_filter}
 use Rattle.std.proofs.lemmas.List.{reverse-append, length-reverse, map-id}
 use Rattle.std.proofs.lemmas.List.Elements.{filter-append}
 use Rattle.speck.specs.declared.Part.{Part}
@@ -20,7 +29,7 @@ reverse-filter p (x ∷ xs) =
 pub chain_room : {S : Type 0} {steps : S → Option Part → S → Type 0} {s : S} {all : List Part} (old : Stack) (ks : List Part) → YieldsList steps (λ x. x) s all → reverse all ≡ ks → HasRoom (length ks) old → (xs : List Part) (t : S) → Yields steps s xs t → HasRoom (length xs) old
 chain_room {all} old ks e r h xs t y =
     let n : length all ≡ length ks = sym (length-reverse all) ∙ ap length r in
-    let k : length xs ≤ length all = (at_most_from_yields_List e (omega arith)).runs xs t y in
+    let k : length xs ≤ length all = (at_most_from_yields_List {n = length all} e (omega arith)).runs xs t y in
     omega arith
 
 -- and in the end they are on it.
@@ -38,3 +47,7 @@ reverse-option (Some p) ks e = e
 pub length-option : (o : Option Part) (ks : List Part) (n : ℕ) → option_to_list o ≡ ks → n ≡ bool_byte (is_some o) → n ≡ length ks
 length-option None ks n e h = h ∙ ap length e
 length-option (Some p) ks n e h = h ∙ ap length e
+
+-- what passes a test, the last one first
+pub sifted : {F : Type 0} (g : Mut F (Bor (Bor Part) × Unit {0}) Bool) (p : Part → Bool) (l : List Part) {f : F} {s : Copied (Filter (Rev (Iter Part)) F)} {t : Filter (Rev (Iter Part)) F} {u : Rev (Iter Part)} → copied_source s ≡ t → filter_source t ≡ u → iter_rest (rev_source u) ≡ l → filter_callee t ≡ f → ((x : Bor Part) (b : Bool) (q : F) → CalledAt g f x b q → (q ≡ f) × (b ≡ p x.now)) → YieldsList (copies (filter_steps (rev_steps iter_steps_back) g)) (λ x. x) s (filter p (reverse l))
+sifted g p l a b c d h = YieldsList-from_copied (YieldsList-at a (YieldsList-from_filter g p (YieldsList-at b (YieldsList-from_rev_slice l c)) d h))
