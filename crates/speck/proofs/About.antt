@@ -1,15 +1,17 @@
 -- Every question is about the grid, so grids that agree there have one survey.
-use Rattle.std.proofs.Common.{◌≡◌, ℕ, zero, suc, ◌+◌, ◌*◌, ◌%◌, ◌^◌, ◌<◌, ◌≤◌, Bool, true, false, cond, ◌||◌, List, [], ◌∷◌, ◌++◌, length, sym, refl, ap, ◌∙◌, subst, pow-suc, arith, pow_mono}
+use Rattle.std.proofs.Common.{◌≡◌, ℕ, zero, suc, ◌+◌, ◌*◌, ◌%◌, ◌^◌, ◌<◌, ◌≤◌, Bool, true, false, ◌||◌, List, [], ◌∷◌, ◌++◌, length, sym, refl, ap, ◌∙◌, subst, pow-suc, arith, pow_mono}
 use native.Mathlib.Nat.{mul-mod_left}
+use Rattle.std.specs.List.{AllByRecursion}
 use Rattle.speck.specs.declared.Part.{Part}
 use Rattle.speck.specs.declared.Part.TheVariants.{Block, Rest}
 use Rattle.speck.specs.Grid.{Grid, magnitude, is_negative, upper, outside, View, cell, parts, view, significant, significant_cell, any_significant}
-use Rattle.speck.specs.Survey.{Found, arranged, insert, before, odd, refined, survey}
+use Rattle.speck.specs.Survey.{Found, arranged, odd, refined, survey}
 use Rattle.speck.specs.Machine.{State, owing, asking, sign, refinement, finished, refine_on_by, go_on_by, enter_plane, unfolded, ask, answer, step, noted, Next, going, contradiction, surplus, run, feed, start}
 use Rattle.speck.specs.Receiver.{InGrid, Headed, Top}
 use Rattle.speck.specs.Laws.{InPlace, AboutGrid, QuestionsAboutGrid, SurveyOfCells, asked, onward, written}
 use Rattle.speck.proofs.Asking.{asking_gives}
-use Rattle.speck.proofs.Geometry.{Each, LoudBy, part_ind, significant_by, significant_one_cell}
+use Rattle.speck.proofs.Lists.{each_append, each_arranged}
+use Rattle.speck.proofs.Geometry.{LoudBy, part_ind, significant_by, significant_one_cell}
 
 -- a place a multiple of the side, and inside the grid
 record Fits (m s r : ℕ) : Type 0 where
@@ -40,7 +42,7 @@ at_side m x d e = record { times = 1; is = omega arith; within = omega (arith, p
 -- what a part opens to
 abbrev Opens : ℕ → View → Type 0
 Opens m (cell r c) = InGrid m r c
-Opens m (parts k ks) = Each (Aligned m) (k ∷ ks)
+Opens m (parts k ks) = AllByRecursion (Aligned m) (k ∷ ks)
 
 opens : (m : ℕ) (p : Part) → Aligned m p → Opens m (view p)
 opens m (Block zero r c) a = record { row = omega (arith, a.0.within); column = omega (arith, a.1.within) }
@@ -69,35 +71,14 @@ in_place m (Block s r c) a = (
 in_place m (Rest d x) e = e
 
 -- lists of parts in their places, and of cells in the grid
-each_append : (m : ℕ) (xs ys : List Part) → Each (Aligned m) xs → Each (Aligned m) ys → Each (Aligned m) (xs ++ ys)
-each_append m [] ys h k = k
-each_append m (x ∷ xs) ys h k = (h.0, each_append m xs ys h.1 k)
-
-each_insert : (m : ℕ) (p : Part) (qs : List Part) → Aligned m p → Each (Aligned m) qs → Each (Aligned m) (insert p qs)
-unfolding insert
-each_insert m p [] a h = (a, tt)
-each_insert m p (q ∷ qs) a h =
-    let ih = each_insert m p qs a h.1 in
-    elim (before p q) as (λ b. Each (Aligned m) (cond b (p ∷ q ∷ qs) (q ∷ insert p qs))) [ true ↦ (a, h) | false ↦ (h.0, ih) ]
-
-each_arranged : (m : ℕ) (ps : List Part) → Each (Aligned m) ps → Each (Aligned m) (arranged ps)
-unfolding arranged
-each_arranged m [] h = tt
-each_arranged m (p ∷ ps) h = each_insert m p (arranged ps) h.0 (each_arranged m ps h.1)
-
 abbrev Cells : ℕ → List Found → Type 0
-Cells m [] = Unit {0}
-Cells m (e ∷ es) = InGrid m e.row e.column × Cells m es
-
-cells_append : (m : ℕ) (xs ys : List Found) → Cells m xs → Cells m ys → Cells m (xs ++ ys)
-cells_append m [] ys h k = k
-cells_append m (x ∷ xs) ys h k = (h.0, cells_append m xs ys h.1 k)
+Cells m = AllByRecursion (λ e. InGrid m e.row e.column)
 
 -- what a state has is of the grid, and its plane one of the P
 record OfGrid (m P n : ℕ) (todo noes : List Part) (cells : List Found) : Type 0 where
   plane : n < P
-  todo_in : Each (Aligned m) todo
-  noes_in : Each (Aligned m) noes
+  todo_in : AllByRecursion (Aligned m) todo
+  noes_in : AllByRecursion (Aligned m) noes
   cells_in : Cells m cells
 
 abbrev Within : ℕ → ℕ → State → Type 0
@@ -117,7 +98,7 @@ cells_right m (x ∷ xs) ys h = cells_right m xs ys h.1
 
 -- the continuation at a plane's end
 abbrev Enters : ℕ → ℕ → (List Part → List Found → State) → Type 0
-Enters m P k = (w : List Part) (f : List Found) → Each (Aligned m) w → Cells m f → Within m P (k w f)
+Enters m P k = (w : List Part) (f : List Found) → AllByRecursion (Aligned m) w → Cells m f → Within m P (k w f)
 
 refines : (m P n : ℕ) (k : List Part → List Found → State) → Enters m P k → (todo done : List Found) (noes : List Part) (new : List Found) → Cells m todo → OfGrid m P n [] noes (done ++ new) → Within m P (refine_on_by k n todo done noes new)
 refines m P n k H [] done noes new c o = H noes (done ++ new) o.noes_in o.cells_in
@@ -132,12 +113,12 @@ enters : (m P n : ℕ) → n ≤ P → Enters m P (enter_plane n)
 unfolding enter_plane
 enters m P zero h w f a c = tt
 enters m P (suc n) h w f a c =
-    goes m P n (enter_plane n) (enters m P n (omega arith)) (arranged w) [] f [] (record { plane = omega arith; todo_in = each_arranged m w a; noes_in = tt; cells_in = cells_append m f [] c tt })
+    goes m P n (enter_plane n) (enters m P n (omega arith)) (arranged w) [] f [] (record { plane = omega arith; todo_in = each_arranged (Aligned m) w a; noes_in = tt; cells_in = each_append (λ e. InGrid m e.row e.column) f [] c tt })
 
 unfolds : (m P n : ℕ) (v : View) (free noes : List Part) (old new : List Found) → Opens m v → OfGrid m P n free noes (old ++ new) → Within m P (unfolded n v free noes old new)
 unfolds m P n (cell r c) free noes old new h o = (h, o)
 unfolds m P n (parts k ks) free noes old new h o =
-    record { plane = o.plane; todo_in = each_append m (k ∷ ks) free h o.todo_in; noes_in = o.noes_in; cells_in = o.cells_in }
+    record { plane = o.plane; todo_in = each_append (Aligned m) (k ∷ ks) free h o.todo_in; noes_in = o.noes_in; cells_in = o.cells_in }
 
 abbrev GoesWithin : ℕ → ℕ → Next → Type 0
 GoesWithin m P (going s) = Within m P s
@@ -151,7 +132,7 @@ module _ (m P : ℕ) where
 
   -- and waits
   passed : (n : ℕ) (p : Part) (todo noes : List Part) (cells : List Found) → OfGrid m P n (p ∷ todo) noes cells → OfGrid m P n todo (noes ++ p ∷ []) cells
-  passed n p todo noes cells o = record { plane = o.plane; todo_in = o.todo_in.1; noes_in = each_append m noes (p ∷ []) o.noes_in (o.todo_in.0, tt); cells_in = o.cells_in }
+  passed n p todo noes cells o = record { plane = o.plane; todo_in = o.todo_in.1; noes_in = each_append (Aligned m) noes (p ∷ []) o.noes_in (o.todo_in.0, tt); cells_in = o.cells_in }
 
   steps : (s : State) (b : Bool) → Within m P s → GoesWithin m P (step s b)
   steps (owing n p ps free noes old new) true o = unfolds m P n (view p) (ps ++ free) noes old new (opens m p o.todo_in.0) (off n p (ps ++ free) noes (old ++ new) o)
@@ -161,11 +142,11 @@ module _ (m P : ℕ) where
   steps (asking n p free noes old new) false o = goes m P n (enter_plane n) (enters m P n (omega (arith, o.plane))) free (noes ++ p ∷ []) old new (passed n p free noes (old ++ new) o)
   steps (sign n r c free noes old new) b o =
       let cs = o.1.cells_in in
-      let found = cells_append m old (new ++ noted r c b ∷ []) (cells_left m old new cs) (cells_append m new (noted r c b ∷ []) (cells_right m old new cs) (o.0, tt)) in
+      let found = each_append (λ e. InGrid m e.row e.column) old (new ++ noted r c b ∷ []) (cells_left m old new cs) (each_append (λ e. InGrid m e.row e.column) new (noted r c b ∷ []) (cells_right m old new cs) (o.0, tt)) in
       goes m P n (enter_plane n) (enters m P n (omega (arith, o.1.plane))) free noes old (new ++ noted r c b ∷ []) (record { plane = o.1.plane; todo_in = o.1.todo_in; noes_in = o.1.noes_in; cells_in = found })
   steps (refinement n e todo done noes new) b o =
       let cs = o.2.cells_in in
-      let found = cells_append m (done ++ refined e b ∷ []) new (cells_append m done (refined e b ∷ []) (cells_left m done new cs) (o.0, tt)) (cells_right m done new cs) in
+      let found = each_append (λ e. InGrid m e.row e.column) (done ++ refined e b ∷ []) new (each_append (λ e. InGrid m e.row e.column) done (refined e b ∷ []) (cells_left m done new cs) (o.0, tt)) (cells_right m done new cs) in
       refines m P n (enter_plane n) (enters m P n (omega (arith, o.2.plane))) todo (done ++ refined e b ∷ []) noes new o.1 (record { plane = o.2.plane; todo_in = tt; noes_in = o.2.noes_in; cells_in = found })
   steps (finished noes old) b o = tt
 
@@ -185,7 +166,7 @@ module _ (m P : ℕ) where
   about (refinement n e todo done noes new) o = (o.2.plane, o.0)
   about (finished noes old) o = tt
 
-outside_in : (k x : ℕ) → Each (Aligned (x + k)) (outside k x)
+outside_in : (k x : ℕ) → AllByRecursion (Aligned (x + k)) (outside k x)
 outside_in zero x = tt
 outside_in (suc k) x = (refl, tt)
 
@@ -193,7 +174,7 @@ starts : (x k P : ℕ) → Within (x + k) P (start x k P)
 starts x k zero = tt
 starts x k (suc n) =
     let f : Fits (x + k) x 0 = record { times = 0; is = omega arith; within = omega (arith, pow_mono {i = x} {j = x + k} (omega arith)) } in
-    record { plane = omega arith; todo_in = ((f, f), each_append (x + k) (outside k x) [] (outside_in k x) tt); noes_in = tt; cells_in = tt }
+    record { plane = omega arith; todo_in = ((f, f), each_append (Aligned (x + k)) (outside k x) [] (outside_in k x) tt); noes_in = tt; cells_in = tt }
 
 pub about_grid : QuestionsAboutGrid
 about_grid x k P bits s e = about (x + k) P s (subst (GoesWithin (x + k) P) e (runs (x + k) P bits (going (start x k P)) (starts x k P)))
@@ -206,13 +187,13 @@ module _ (m P : ℕ) (g h : Grid) (agree : (i j : ℕ) → InGrid m i j → g i 
   abbrev Same : ℕ → Part → Type 0
   Same n p = Aligned m p → significant g n p ≡ significant h n p
 
-  same_any : (n : ℕ) (ps : List Part) → Each (Same n) ps → Each (Aligned m) ps → any_significant g n ps ≡ any_significant h n ps
+  same_any : (n : ℕ) (ps : List Part) → AllByRecursion (Same n) ps → AllByRecursion (Aligned m) ps → any_significant g n ps ≡ any_significant h n ps
   same_any n [] e a = refl
   same_any n (p ∷ ps) e a = ap (λ b. b || any_significant g n ps) (e.0 a.0) ∙ ap (λ b. significant h n p || b) (same_any n ps e.1 a.1)
 
-  same_more : (n : ℕ) (p k : Part) (ks : List Part) → view p ≡ parts k ks → Each (Same n) (k ∷ ks) → Same n p
+  same_more : (n : ℕ) (p k : Part) (ks : List Part) → view p ≡ parts k ks → AllByRecursion (Same n) (k ∷ ks) → Same n p
   same_more n p k ks v e a =
-      let a' : Each (Aligned m) (k ∷ ks) = subst (Opens m) v (opens m p a) in
+      let a' : AllByRecursion (Aligned m) (k ∷ ks) = subst (Opens m) v (opens m p a) in
       subst (LoudBy g n p) v (significant_by g n p) ∙ (same_any n (k ∷ ks) e a' ∙ sym (subst (LoudBy h n p) v (significant_by h n p)))
 
   same_part : (n : ℕ) (p : Part) → Same n p

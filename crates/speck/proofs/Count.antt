@@ -1,11 +1,12 @@
 -- Each cell is in one place: how many parts and found cells have it does not change.
 use Rattle.std.proofs.Common.{◌≡◌, ℕ, zero, suc, ◌+◌, ◌<◌, Bool, true, false, List, [], ◌∷◌, ◌++◌, sym, refl, ◌∙◌, zero-add, arith}
+use Rattle.std.specs.List.{AllByRecursion}
 use Rattle.speck.specs.declared.Part.{Part}
 use Rattle.speck.specs.declared.Part.TheVariants.{Block}
 use Rattle.speck.specs.Grid.{View, cell, parts, view, inside, coverage, square}
 use Rattle.speck.specs.Survey.{Found, arranged, refined}
 use Rattle.speck.specs.Machine.{State, owing, asking, sign, refinement, finished, refine_on_by, go_on_by, enter_plane, unfolded, step, Next, going, contradiction, surplus, run, feed, start}
-use Rattle.speck.proofs.Lists.{coverage_append, coverage_arrange}
+use Rattle.speck.proofs.Lists.{coverage_append, coverage_arrange, each_append}
 use Rattle.speck.proofs.Geometry.{Made, made, whole}
 
 abbrev pub at : Found → ℕ → ℕ → ℕ
@@ -28,12 +29,7 @@ count (finished noes old) i j = coverage noes i j + cnt old i j
 
 -- each found cell has a bit
 abbrev pub Some : List Found → Type 0
-Some [] = Unit {0}
-Some (e ∷ es) = (0 < e.leading) × Some es
-
-pub some_append : (xs ys : List Found) → Some xs → Some ys → Some (xs ++ ys)
-some_append [] ys h k = k
-some_append (x ∷ xs) ys h k = (h.0, some_append xs ys h.1 k)
+Some = AllByRecursion (λ e. 0 < e.leading)
 
 abbrev pub Sound : State → Type 0
 Sound (owing n p ps free noes old new) = Some old × Some new
@@ -102,7 +98,7 @@ module _ (i j : ℕ) where
 
 -- the same for what a found cell has
 turn_by_sound : (n : ℕ) (k : List Part → List Found → State) → ((w : List Part) (f : List Found) → Some f → Sound (k w f)) → (todo done : List Found) (noes : List Part) (new : List Found) → Some todo → Some done → Some new → Sound (refine_on_by k n todo done noes new)
-turn_by_sound n k H [] done noes new a b c = H noes (done ++ new) (some_append done new b c)
+turn_by_sound n k H [] done noes new a b c = H noes (done ++ new) (each_append (λ e. 0 < e.leading) done new b c)
 turn_by_sound n k H (e ∷ todo) done noes new a b c = (a, b, c)
 
 go_by_sound : (n : ℕ) (k : List Part → List Found → State) → ((w : List Part) (f : List Found) → Some f → Sound (k w f)) → (free noes : List Part) (old new : List Found) → Some old → Some new → Sound (go_on_by k n free noes old new)
@@ -129,8 +125,8 @@ step_sound (owing n p [] free noes old new) false h = tt
 step_sound (owing n p (p₁ ∷ ps) free noes old new) false h = h
 step_sound (asking n p free noes old new) true h = yes_sound n (view p) free noes old new h
 step_sound (asking n p free noes old new) false h = go_by_sound n (enter_plane n) (enter_sound n) free _ old new h.0 h.1
-step_sound (sign n r c free noes old new) b h = go_by_sound n (enter_plane n) (enter_sound n) free noes old _ h.0 (some_append new _ h.1 (omega arith, tt))
-step_sound (refinement n e todo done noes new) b h = turn_by_sound n (enter_plane n) (enter_sound n) todo _ noes new h.0.1 (some_append done _ h.1 (omega (arith, h.0.0), tt)) h.2
+step_sound (sign n r c free noes old new) b h = go_by_sound n (enter_plane n) (enter_sound n) free noes old _ h.0 (each_append (λ e. 0 < e.leading) new _ h.1 (omega arith, tt))
+step_sound (refinement n e todo done noes new) b h = turn_by_sound n (enter_plane n) (enter_sound n) todo _ noes new h.0.1 (each_append (λ e. 0 < e.leading) done _ h.1 (omega (arith, h.0.0), tt)) h.2
 step_sound (finished noes old) b h = tt
 
 feed_sound : (t : Next) (b : Bool) → Sounds t → Sounds (feed t b)

@@ -1,6 +1,7 @@
 -- Every state that can be reached allows a grid.
 use Rattle.std.proofs.Common.{◌≡◌, ℕ, zero, suc, ◌+◌, ◌*◌, ◌^◌, ◌<◌, ◌≤◌, Bool, true, false, cond, ◌&&◌, eqb, List, [], ◌∷◌, ◌++◌, ℤ, pos, refl, ap, ◌∙◌, subst, arith, pow_pos}
 use Rattle.std.proofs.lemmas.Bool.{and_parts, and_from, eqb-true, eq-eqb}
+use Rattle.std.specs.List.{AllByRecursion}
 use Rattle.speck.specs.declared.Part.{Part}
 use Rattle.speck.specs.declared.Part.TheVariants.{Block}
 use Rattle.speck.specs.Survey.{Found}
@@ -9,7 +10,7 @@ use Rattle.speck.specs.Machine.{State, owing, asking, sign, refinement, finished
 use Rattle.speck.specs.Receiver.{value, is_at, lookup, known}
 use Rattle.speck.proofs.Lists.{coverage_append}
 use Rattle.speck.proofs.Possible.{Insignificant, Fits, Known, Base, Possible}
-use Rattle.speck.proofs.Geometry.{Made, made, one_in, part_ind, Each}
+use Rattle.speck.proofs.Geometry.{Made, made, one_in, part_ind}
 use Rattle.speck.proofs.Count.{at, cnt, count, Some, Sound}
 use Rattle.speck.proofs.Upper.{upper_is, none_upper, upper_scaled, mag_signed, neg_signed}
 
@@ -92,7 +93,7 @@ has = part_ind Has one more
     one : (r c : ℕ) → Has (Block 0 r c)
     one r c = record { row = r; column = c; there = omega (arith, one_in r c) }
 
-    more : (p k : Part) (ks : List Part) → view p ≡ parts k ks → Each Has (k ∷ ks) → Has p
+    more : (p k : Part) (ks : List Part) → view p ≡ parts k ks → AllByRecursion Has (k ∷ ks) → Has p
     more p k ks e h =
         let m : Made p (parts k ks) = subst (Made p) e (made p) in
         record { row = h.0.row; column = h.0.column; there = omega (arith, h.0.there, m h.0.row h.0.column) }

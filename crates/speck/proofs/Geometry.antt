@@ -1,6 +1,7 @@
 -- A part is made of its parts: each cell of it is in just one.
-use Rattle.std.proofs.Common.{◌≡◌, ℕ, zero, suc, ◌+◌, ◌^◌, ◌<◌, ◌≤◌, List, [], ◌∷◌, refl, add-zero, add-suc, suc-add, zero-add, add-one, arith}
+use Rattle.std.proofs.Common.{◌≡◌, ℕ, zero, suc, ◌+◌, ◌^◌, ◌<◌, ◌≤◌, List, ◌∷◌, refl, add-zero, add-suc, suc-add, zero-add, add-one, arith}
 use Rattle.std.proofs.lemmas.Bool.Decides.{nat_tests}
+use Rattle.std.specs.List.{AllByRecursion}
 use Rattle.speck.specs.declared.Part.{Part}
 use Rattle.speck.specs.declared.Part.TheVariants.{Block, Rest}
 use Rattle.speck.specs.Grid.{Grid, outside, View, cell, parts, view, significant, inside, coverage, span, square, any_significant, significant_cell}
@@ -57,12 +58,8 @@ made (Rest (suc d) x) = λ i j. simp (add-suc, suc-add) (omega (arith, square_ze
     grows x d i j = simp (add-suc, suc-add) at (square_grows (suc x) (suc d) i j)
 
 -- all of a list
-abbrev pub Each : (Part → Type 0) → List Part → Type 0
-Each P [] = Unit {0}
-Each P (p ∷ ps) = P p × Each P ps
-
 -- what holds of a single cell, and of a set whose parts it holds of, holds of every part
-module _ (P : Part → Type 0) (one : (r c : ℕ) → P (Block 0 r c)) (more : (p : Part) (k : Part) (ks : List Part) → view p ≡ parts k ks → Each P (k ∷ ks) → P p) where
+module _ (P : Part → Type 0) (one : (r c : ℕ) → P (Block 0 r c)) (more : (p : Part) (k : Part) (ks : List Part) → view p ≡ parts k ks → AllByRecursion P (k ∷ ks) → P p) where
   pub block_ind : (s r c : ℕ) → P (Block s r c)
   block_ind zero r c = one r c
   block_ind (suc s) r c = more (Block (suc s) r c) _ _ refl (block_ind s r c, (block_ind s r (c + 2 ^ s), (block_ind s (r + 2 ^ s) c, (block_ind s (r + 2 ^ s) (c + 2 ^ s), tt))))

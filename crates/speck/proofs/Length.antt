@@ -1,13 +1,17 @@
 -- How many bits a survey has at most: by the nodes of the quadtree and the cells.
-use Rattle.std.proofs.Common.{◌≡◌, ℕ, zero, suc, ◌+◌, ◌*◌, ◌≤◌, Bool, true, false, cond, List, [], ◌∷◌, ◌++◌, map, length, refl, ap, ◌∙◌, subst, add-zero, add-suc, suc-mul, suc-add, zero-mul, arith, length-append}
+use Rattle.std.proofs.Common.{◌≡◌, ℕ, zero, suc, ◌+◌, ◌*◌, ◌≤◌, Bool, true, false, cond, List, [], ◌∷◌, ◌++◌, map, length, sym, refl, ap, ◌∙◌, subst, add-zero, add-suc, suc-mul, suc-add, zero-mul, arith, length-append}
+use Rattle.std.proofs.lemmas.List.Recursion.{is_sum_by}
+use Rattle.std.proofs.lemmas.List.Sorted.{sum_by-IsPermutation}
 use lib.ListN.{length-map}
+use Rattle.std.specs.List.{AllByRecursion}
 use Rattle.speck.specs.declared.Part.{Part}
 use Rattle.speck.specs.declared.Part.TheVariants.{Block, Rest}
 use Rattle.speck.specs.Grid.{Grid, outside, View, cell, parts, view, significant}
-use Rattle.speck.specs.Survey.{Found, arranged, insert, before, refined, bit_of, Outcome, and_then, said_no, found_cell, opened, ask_part, ask_all, planes, survey}
+use Rattle.speck.specs.Survey.{Found, arranged, refined, bit_of, Outcome, and_then, said_no, found_cell, opened, ask_part, ask_all, planes, survey}
 use Rattle.speck.specs.Laws.{SurveyLength}
 use Rattle.speck.proofs.Walk.{AskBy, ask_by}
-use Rattle.speck.proofs.Geometry.{Each, part_ind}
+use Rattle.speck.proofs.Lists.{arranged_moves}
+use Rattle.speck.proofs.Geometry.{part_ind}
 
 -- the nodes of a block's quadtree, and of the tree of a Rest
 abbrev pub block_nodes : ℕ → ℕ
@@ -44,17 +48,10 @@ sum_append : (f : Part → ℕ) (xs ys : List Part) → sum_of f (xs ++ ys) ≡ 
 sum_append f [] ys = omega arith
 sum_append f (x ∷ xs) ys = omega (arith, sum_append f xs ys)
 
-sum_place : (f : Part → ℕ) (p : Part) (qs : List Part) → sum_of f (insert p qs) ≡ f p + sum_of f qs
-unfolding insert
-sum_place f p [] = refl
-sum_place f p (q ∷ qs) =
-    let ih = sum_place f p qs in
-    elim (before p q) as (λ b. sum_of f (cond b (p ∷ q ∷ qs) (q ∷ insert p qs)) ≡ f p + (f q + sum_of f qs)) [ true ↦ refl | false ↦ omega arith ]
-
 sum_arrange : (f : Part → ℕ) (ps : List Part) → sum_of f (arranged ps) ≡ sum_of f ps
-unfolding arranged
-sum_arrange f [] = refl
-sum_arrange f (p ∷ ps) = omega (arith, sum_place f p (arranged ps), sum_arrange f ps)
+sum_arrange f ps =
+    let s = is_sum_by (sum_of f) f refl (λ _ _. refl) in
+    s (arranged ps) ∙ sum_by-IsPermutation f ps (arranged ps) (arranged_moves ps) ∙ sym (s ps)
 
 -- what is asked of sets with so many nodes and so many cells
 record Bounded (a : Outcome) (N A : ℕ) : Type 0 where
@@ -102,7 +99,7 @@ module _ (g : Grid) (n : ℕ) where
   Few : Part → Type 0
   Few p = Bounded (ask_part g n p) (nodes p) (area p)
 
-  all_few : (ps : List Part) → Each Few ps → Bounded (ask_all g n ps) (sum_of nodes ps) (sum_of area ps)
+  all_few : (ps : List Part) → AllByRecursion Few ps → Bounded (ask_all g n ps) (sum_of nodes ps) (sum_of area ps)
   unfolding Few
   all_few [] h = record { bits_few = omega arith; nodes_left = omega arith; cells_left = omega arith }
   all_few (p ∷ ps) h = both_bounded (ask_part g n p) (ask_all g n ps) (nodes p) (sum_of nodes ps) (area p) (sum_of area ps) h.0 (all_few ps h.1)
@@ -115,7 +112,7 @@ module _ (g : Grid) (n : ℕ) where
       by true = found_bounded g r c
       by false = no_bounded (Block 0 r c)
 
-  few_more : (p k : Part) (ks : List Part) → view p ≡ parts k ks → Each Few (k ∷ ks) → Few p
+  few_more : (p k : Part) (ks : List Part) → view p ≡ parts k ks → AllByRecursion Few (k ∷ ks) → Few p
   unfolding Few
   few_more p k ks e h =
       let a : ask_part g n p ≡ cond (significant g n p) (opened (ask_all g n (k ∷ ks))) (said_no p) = subst (AskBy g n p) e (ask_by g n p) in
@@ -125,7 +122,7 @@ module _ (g : Grid) (n : ℕ) where
       by true y = rw ((nodes_by p k ks e).0, (nodes_by p k ks e).1) (opened_bounded (ask_all g n (k ∷ ks)) (sum_of nodes (k ∷ ks)) (sum_of area (k ∷ ks)) y)
       by false y = no_bounded p
 
-  few_each : (ps : List Part) → Each Few ps
+  few_each : (ps : List Part) → AllByRecursion Few ps
   few_each [] = tt
   few_each (p ∷ ps) = (part_ind Few few_one few_more p, few_each ps)
 

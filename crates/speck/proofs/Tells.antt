@@ -1,17 +1,18 @@
 -- The answer to a question about a part says what it should.
 use Rattle.std.proofs.Common.{◌≡◌, ℕ, ◌<◌, ◌≤◌, Bool, true, false, ◌⊎◌, List, [], ◌∷◌, sym, refl, ◌∙◌, subst, inl, inr, arith}
 use Rattle.std.proofs.lemmas.Bool.{or_cases, or_parts, ltb-true, ltb-false, false≢true, cases_lt}
+use Rattle.std.specs.List.{AllByRecursion}
 use Rattle.speck.specs.declared.Part.{Part}
 use Rattle.speck.specs.declared.Part.TheVariants.{Block}
 use Rattle.speck.specs.Grid.{Grid, magnitude, upper, cell, parts, view, significant, inside, any_significant}
 use Rattle.speck.proofs.Possible.{Insignificant, Significant}
-use Rattle.speck.proofs.Geometry.{Made, made, Each, part_ind, LoudBy, significant_by, significant_one_cell}
+use Rattle.speck.proofs.Geometry.{Made, made, part_ind, LoudBy, significant_by, significant_one_cell}
 
 pub record Tells (g : Grid) (n : ℕ) (p : Part) : Type 0 where
   pub yes! : significant g n p ≡ true → Significant g n (p ∷ [])
   pub no! : significant g n p ≡ false → Insignificant g n (p ∷ [])
 
-any_true : (g : Grid) (n : ℕ) (ps : List Part) → Each (Tells g n) ps → any_significant g n ps ≡ true → Significant g n ps
+any_true : (g : Grid) (n : ℕ) (ps : List Part) → AllByRecursion (Tells g n) ps → any_significant g n ps ≡ true → Significant g n ps
 any_true g n [] t h = absurd (false≢true h)
 any_true g n (p ∷ ps) t h = go_on (or_cases (significant g n p) (any_significant g n ps) h) (any_true g n ps t.1)
   where
@@ -27,7 +28,7 @@ split_insignificant g n p ps a b i j h = go_on (cases_lt 0 (inside p i j))
     go_on (inl x) = a i j (omega arith)
     go_on (inr x) = b i j (omega arith)
 
-any_false : (g : Grid) (n : ℕ) (ps : List Part) → Each (Tells g n) ps → any_significant g n ps ≡ false → Insignificant g n ps
+any_false : (g : Grid) (n : ℕ) (ps : List Part) → AllByRecursion (Tells g n) ps → any_significant g n ps ≡ false → Insignificant g n ps
 any_false g n [] t h = λ i j x. omega arith
 any_false g n (p ∷ ps) t h =
     let b = or_parts (significant g n p) (any_significant g n ps) h in
@@ -48,7 +49,7 @@ tells_one g n r c = record { yes! = y; no! = z }
         let l : upper n (magnitude (g r c)) ≤ 0 = ltb-false 0 (upper n (magnitude (g r c))) (sym (significant_one_cell g n r c) ∙ e) in
         rw (q.0, q.1) (omega arith)
 
-tells_more : (g : Grid) (n : ℕ) (p : Part) (k : Part) (ks : List Part) → view p ≡ parts k ks → Each (Tells g n) (k ∷ ks) → Tells g n p
+tells_more : (g : Grid) (n : ℕ) (p : Part) (k : Part) (ks : List Part) → view p ≡ parts k ks → AllByRecursion (Tells g n) (k ∷ ks) → Tells g n p
 tells_more g n p k ks e t = record { yes! = y; no! = z }
   where
     m : Made p (parts k ks)
@@ -81,7 +82,7 @@ says_no g n p q = go_on (significant g n p) refl
     go_on false e = e
     go_on true e = let l = (tells g n p).yes! e in absurd (omega (arith, q l.row l.column l.there, l.big))
 
-tells_each : (g : Grid) (n : ℕ) (ps : List Part) → Each (Tells g n) ps
+tells_each : (g : Grid) (n : ℕ) (ps : List Part) → AllByRecursion (Tells g n) ps
 tells_each g n [] = tt
 tells_each g n (p ∷ ps) = (tells g n p, tells_each g n ps)
 

@@ -1,13 +1,14 @@
 -- The survey is what the questions of the machine are answered by.
 use Rattle.std.proofs.Common.{◌≡◌, ℕ, zero, suc, Bool, true, false, cond, List, [], ◌∷◌, ◌++◌, map, sym, refl, ap, ◌∙◌, subst, append_assoc, append-nil}
 use Rattle.std.proofs.lemmas.Bool.{false≢true}
+use Rattle.std.specs.List.{AllByRecursion}
 use Rattle.speck.specs.declared.Part.{Part}
 use Rattle.speck.specs.declared.Part.TheVariants.{Block, Rest}
 use Rattle.speck.specs.Grid.{Grid, outside, View, cell, parts, view, significant, any_significant}
 use Rattle.speck.specs.Survey.{Found, arranged, insert, refined, bit_of, Outcome, and_then, said_no, found_cell, opened, ask_part, ask_all, planes, survey}
 use Rattle.speck.specs.Machine.{State, owing, asking, finished, ask, answer, enter_plane, go_on, refine_on, unfolded, step, Next, going, start, significant?}
 use Rattle.speck.proofs.Trace.{Trace, trace_append}
-use Rattle.speck.proofs.Geometry.{Each, part_ind, LoudBy, significant_by}
+use Rattle.speck.proofs.Geometry.{part_ind, LoudBy, significant_by}
 
 -- what is got of a part, by its view
 abbrev pub AskBy : Grid → ℕ → Part → View → Type 0
@@ -49,15 +50,15 @@ module _ (g : Grid) (n : ℕ) where
       by true e = w e _ free no₀ old new refl refl
       by false e = rw (ask_no g n p e) (e, rw (append-nil new))
 
-  all_walk : (ps : List Part) → Each Walk ps → (free no₀ : List Part) (old new : List Found) → Leads (going (go_on n (ps ++ free) no₀ old new)) (ask_all g n ps) free no₀ old new
+  all_walk : (ps : List Part) → AllByRecursion Walk ps → (free no₀ : List Part) (old new : List Found) → Leads (going (go_on n (ps ++ free) no₀ old new)) (ask_all g n ps) free no₀ old new
   all_walk [] w free no₀ old new = rw (append-nil no₀, append-nil new)
   all_walk (p ∷ ps) w free no₀ old new = both _ (ask_part g n p) (ask_all g n ps) (ps ++ free) free no₀ old new (may_walk p w.0 (ps ++ free) no₀ old new) (all_walk ps w.1 free _ old _)
 
-  must_yes : (p : Part) (ps : List Part) → Each Walk (p ∷ ps) → significant g n p ≡ true → (free no₀ : List Part) (old new : List Found) → Leads (going (owing n p ps free no₀ old new)) (ask_all g n (p ∷ ps)) free no₀ old new
+  must_yes : (p : Part) (ps : List Part) → AllByRecursion Walk (p ∷ ps) → significant g n p ≡ true → (free no₀ : List Part) (old new : List Found) → Leads (going (owing n p ps free no₀ old new)) (ask_all g n (p ∷ ps)) free no₀ old new
   unfolding Walk
   must_yes p ps w e free no₀ old new = both _ (ask_part g n p) (ask_all g n ps) (ps ++ free) free no₀ old new (w.0 e _ (ps ++ free) no₀ old new refl refl) (all_walk ps w.1 free _ old _)
 
-  must_walk : (ps : List Part) (p : Part) → Each Walk (p ∷ ps) → any_significant g n (p ∷ ps) ≡ true → (free no₀ : List Part) (old new : List Found) → Leads (going (owing n p ps free no₀ old new)) (ask_all g n (p ∷ ps)) free no₀ old new
+  must_walk : (ps : List Part) (p : Part) → AllByRecursion Walk (p ∷ ps) → any_significant g n (p ∷ ps) ≡ true → (free no₀ : List Part) (old new : List Found) → Leads (going (owing n p ps free no₀ old new)) (ask_all g n (p ∷ ps)) free no₀ old new
   must_walk [] p w a free no₀ old new = by (significant g n p) refl
     where
       by : (b : Bool) → significant g n p ≡ b → Leads (going (owing n p [] free no₀ old new)) (ask_all g n (p ∷ [])) free no₀ old new
@@ -73,7 +74,7 @@ module _ (g : Grid) (n : ℕ) where
   unfolding Walk
   walk_one r c l s free no₀ old new q h = rw (ask_by g n (Block 0 r c), l) (ap (answer g) q ∙ l, rw h (refl, rw (append-nil no₀)))
 
-  walk_more : (p k : Part) (ks : List Part) → view p ≡ parts k ks → Each Walk (k ∷ ks) → Walk p
+  walk_more : (p k : Part) (ks : List Part) → view p ≡ parts k ks → AllByRecursion Walk (k ∷ ks) → Walk p
   unfolding Walk
   walk_more p k ks e w l s free no₀ old new q h =
       let a : ask_part g n p ≡ cond (significant g n p) (opened (ask_all g n (k ∷ ks))) (said_no p) = subst (AskBy g n p) e (ask_by g n p) in
@@ -83,7 +84,7 @@ module _ (g : Grid) (n : ℕ) where
   walk : (p : Part) → Walk p
   walk = part_ind Walk walk_one walk_more
 
-  walks : (ps : List Part) → Each Walk ps
+  walks : (ps : List Part) → AllByRecursion Walk ps
   walks [] = tt
   walks (p ∷ ps) = (walk p, walks ps)
 

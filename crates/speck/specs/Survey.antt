@@ -1,5 +1,5 @@
 -- The survey of a grid, by recursion as the rules tell it: planes from the top, in each the sorting pass and the refinement pass.
-use Rattle.std.specs.Prelude.{◌≡◌, ℕ, zero, suc, ◌+◌, ◌*◌, ◌%◌, ◌^◌, ◌<◌, Bool, true, false, cond, List, [], ◌∷◌, ◌++◌, map, ◌==◌, nat_le}
+use Rattle.std.specs.Prelude.{◌≡◌, ℕ, zero, suc, ◌+◌, ◌*◌, ◌%◌, ◌^◌, ◌<◌, Bool, true, false, cond, List, [], ◌∷◌, ◌++◌, map, filter, ◌==◌, nat_le}
 use Rattle.speck.specs.declared.Part.{Part}
 use Rattle.speck.specs.declared.Part.TheVariants.{Block, Rest}
 use Rattle.speck.specs.Grid.{Grid, magnitude, is_negative, upper, outside, significant}
@@ -35,16 +35,11 @@ abbrev pub is_rest : Part → Bool
 is_rest (Block s r c) = false
 is_rest (Rest d x) = true
 
--- what passes a test, as it stands in the list
-abbrev pub only : (Part → Bool) → List Part → List Part
-only f [] = []
-only f (p ∷ ps) = cond (f p) (p ∷ only f ps) (only f ps)
-
 abbrev pub of_side : ℕ → List Part → List Part
-of_side s l = only (has_side s) l
+of_side s l = filter (has_side s) l
 
 abbrev pub rests : List Part → List Part
-rests l = only is_rest l
+rests l = filter is_rest l
 
 -- the sides 2^a .. 2^(a + k - 1), from smallest to largest
 abbrev pub tiers : ℕ → ℕ → List Part → List Part

@@ -2,6 +2,8 @@
 #![tactic(auto)]
 
 ghost use Rattle.std.specs.Prelude.{◌≡◌};
+ghost use Rattle.std.specs.Option.{option_to_list};
+ghost use Rattle.speck.specs.Grid.{outside};
 ghost use Rattle.speck.specs.Survey.{has_side, is_rest};
 
 pub mod laws;
@@ -19,19 +21,22 @@ impl Part {
     pub fn is_rest(&self) -> bool
         ensures { result ≡ is_rest self.now }
     {
-        match *self {
-            Part::Block { .. } => false,
-            Part::Rest { .. } => true,
-        }
+        matches!(self, Part::Rest { .. })
     }
 
     // Whether it is a block of side 2^exponent.
     pub fn has_side(&self, exponent: u8) -> bool
         ensures { result ≡ has_side exponent self.now }
     {
-        match *self {
-            Part::Block { side, .. } => side == exponent,
-            Part::Rest { .. } => false,
-        }
+        matches!(self, Part::Block { side, .. } if *side == exponent)
+    }
+
+    // What the top left square of side 2^(side + levels) has outside that of side 2^side, if anything.
+    pub fn outside(levels: u8, side: u8) -> Option<Part>
+        ensures { option_to_list result ≡ outside levels side }
+    {
+        levels
+            .checked_sub(1)
+            .map(|deeper| Part::Rest { deeper, side })
     }
 }

@@ -1,20 +1,12 @@
 -- Parts and their parts, and the room for them.
-use Rattle.std.proofs.Common.{◌≡◌, ℕ, zero, suc, ◌+◌, ◌*◌, ◌^◌, ◌<◌, ◌≤◌, List, [], ◌∷◌, ◌++◌, length, refl, ap, ◌∙◌, subst, mul_assoc, mul_comm, arith, pow_mono}
+use Rattle.std.proofs.Common.{◌≡◌, ℕ, zero, suc, ◌+◌, ◌-◌, ◌*◌, ◌^◌, ◌<◌, ◌≤◌, List, [], ◌∷◌, length, sum_by, zero-add, add-one, refl, ap, ◌∙◌, subst, arith, pow_mono}
+use Rattle.std.proofs.lemmas.List.Sums.{sum_by-append, sum_by-cons}
 use native.Mathlib.Nat.{pow-succ'}
 use Rattle.speck.specs.declared.Part.{Part}
 use Rattle.speck.specs.declared.Part.TheVariants.{Block, Rest}
-use Rattle.speck.specs.Survey.{Found}
 use Rattle.speck.specs.Grid.{parts, view, outside}
-use Rattle.walk.specs.Parts.{All, Within, ring, area, areas}
-use Rattle.walk.specs.Layout.{Sound}
-
-pub all_append : {X : Type 0} (P : X → Type 0) (xs ys : List X) → All P xs → All P ys → All P (xs ++ ys)
-all_append P [] ys a b = b
-all_append P (x ∷ xs) ys a b = (a.0, all_append P xs ys a.1 b)
-
-pub areas_append : (xs ys : List Part) → areas (xs ++ ys) ≡ areas xs + areas ys
-areas_append [] ys = omega arith
-areas_append (x ∷ xs) ys = omega (arith, areas_append xs ys)
+use Rattle.std.specs.List.{AllByRecursion}
+use Rattle.walk.specs.Parts.{Within, ring, area}
 
 four_pos : (s : ℕ) → 0 < 4 ^ s
 four_pos zero = omega arith
@@ -28,16 +20,16 @@ pub area_pos : (p : Part) → 0 < area p
 area_pos (Block s r c) = four_pos s
 area_pos (Rest d x) = ring_pos d x
 
-pub length_areas : (ps : List Part) → length ps ≤ areas ps
+pub length_areas : (ps : List Part) → length ps ≤ sum_by area ps
 length_areas [] = omega arith
-length_areas (p ∷ ps) = omega (arith, area_pos p, length_areas ps)
+length_areas (p ∷ ps) = omega (arith, sum_by-cons area p ps, area_pos p, length_areas ps)
 
 -- a part that is no cell, and its parts
 pub record Spreads (p a : Part) (ks : List Part) : Type 0 where
   pub shown : view p ≡ parts a ks
-  pub size : area p ≡ area a + areas ks
+  pub size : area p ≡ area a + sum_by area ks
   pub first : Within a
-  pub others : All Within ks
+  pub others : AllByRecursion Within ks
 
 pub spread_suc : (t r c : ℕ) → Within (Block (suc t) r c) → Spreads (Block (suc t) r c) (Block t r c) (Block t r (c + 2 ^ t) ∷ Block t (r + 2 ^ t) c ∷ Block t (r + 2 ^ t) (c + 2 ^ t) ∷ [])
 spread_suc t r c w =
@@ -45,16 +37,16 @@ spread_suc t r c w =
     let f : 4 ^ suc t ≡ 4 * 4 ^ t = pow-succ' 4 t in
     record { shown = refl; size = omega arith; first = (omega (arith, w.0), omega (arith, w.1), omega (arith, w.2)); others = ((omega (arith, w.0), omega (arith, w.1), omega (arith, w.2)), ((omega (arith, w.0), omega (arith, w.1), omega (arith, w.2)), ((omega (arith, w.0), omega (arith, w.1), omega (arith, w.2)), tt))) }
 
-pub spread_block : (p : Part) (s r c t h : ℕ) → p ≡ Block s r c → s ≡ suc t → h ≡ 2 ^ t → Within p → Spreads p (Block t r c) (Block t r (c + h) ∷ Block t (r + h) c ∷ Block t (r + h) (c + h) ∷ [])
-spread_block p s r c t h e f g w =
-    let q : p ≡ Block (suc t) r c = e ∙ ap (λ x. Block x r c) f in
-    rw (q, g) (spread_suc t r c (subst Within q w))
+pub spread_block : (p : Part) (s r c : ℕ) → p ≡ Block s r c → 0 < s → Within p → Spreads p (Block (s - 1) r c) (Block (s - 1) r (c + 2 ^ (s - 1)) ∷ Block (s - 1) (r + 2 ^ (s - 1)) c ∷ Block (s - 1) (r + 2 ^ (s - 1)) (c + 2 ^ (s - 1)) ∷ [])
+spread_block p s r c e h w =
+    let q : p ≡ Block (suc (s - 1)) r c = e ∙ ap (λ x. Block x r c) (omega arith) in
+    rw q (spread_suc (s - 1) r c (subst Within q w))
 
-outside_fine : (d x : ℕ) → x + d ≤ 6 → All Within (outside d x)
-outside_fine zero x h = tt
-outside_fine (suc d) x h = (omega arith, tt)
+pub outside_within : (d x : ℕ) → x + d ≤ 6 → AllByRecursion Within (outside d x)
+outside_within zero x h = tt
+outside_within (suc d) x h = (omega arith, tt)
 
-ring_outside : (d x : ℕ) → ring d x ≡ 3 * 4 ^ x + areas (outside d (suc x))
+ring_outside : (d x : ℕ) → ring d x ≡ 3 * 4 ^ x + sum_by area (outside d (suc x))
 ring_outside zero x = omega arith
 ring_outside (suc d) x = omega arith
 
@@ -62,34 +54,17 @@ pub spread_out : (d x : ℕ) → Within (Rest d x) → Spreads (Rest d x) (Block
 spread_out d x w =
     let a : 2 ^ suc x ≤ 2 ^ 6 = pow_mono {i = suc x} {j = 6} (omega arith) in
     let b : 2 ^ suc x ≡ 2 * 2 ^ x = pow-succ' 2 x in
-    record { shown = refl; size = omega (arith, ring_outside d x); first = (omega arith, omega arith, omega arith); others = ((omega arith, omega arith, omega arith), ((omega arith, omega arith, omega arith), outside_fine d (suc x) (omega arith))) }
+    let s = sum_by-append area (Block x (2 ^ x) 0 ∷ Block x (2 ^ x) (2 ^ x) ∷ []) (outside d (suc x)) in
+    record { shown = refl; size = omega (arith, ring_outside d x); first = (omega arith, omega arith, omega arith); others = ((omega arith, omega arith, omega arith), ((omega arith, omega arith, omega arith), outside_within d (suc x) (omega arith))) }
 
-pub spread_rest : (p : Part) (d x y h : ℕ) → p ≡ Rest d x → y ≡ suc x → h ≡ 2 ^ x → Within p → Spreads p (Block x 0 h) (Block x h 0 ∷ Block x h h ∷ outside d y)
-spread_rest p d x y h e f g w = rw (e, f, g) (spread_out d x (subst Within e w))
-
-pub spread_room : (p a : Part) (ks todo noes : List Part) (cells : List Found) (n kept at r0 r1 r2 : ℕ) → Spreads p a ks → Sound (area p) n todo noes cells kept at r0 r1 r2 → length ks + length todo < r0
-spread_room p a ks todo noes cells n kept at r0 r1 r2 e h = omega (arith, e.size, h.room0, area_pos a, length_areas ks, length_areas todo)
-
-pub spread_sound : (p a : Part) (ks todo noes : List Part) (cells : List Found) (n kept at r0 r1 r2 : ℕ) → Spreads p a ks → Sound (area p) n todo noes cells kept at r0 r1 r2 → Sound (area a) n (ks ++ todo) noes cells kept at r0 r1 r2
-spread_sound p a ks todo noes cells n kept at r0 r1 r2 e h =
-    let z = areas_append ks todo in
-    record { plane = h.plane; pending = all_append Within ks todo e.others h.pending; waiting = h.waiting; room0 = omega (arith, e.size, h.room0); room1 = omega (arith, e.size, h.room1); room2 = omega (arith, e.size, h.room2); known = h.known; position = h.position }
-
-doubled : (a b : ℕ) → a * a ≡ b → 2 * a * (2 * a) ≡ 4 * b
-doubled a b e = omega (arith, e, mul_assoc 2 a (2 * a), mul_comm a (2 * a), mul_assoc 2 a a)
-
-pub squared : (s : ℕ) → 2 ^ s * 2 ^ s ≡ 4 ^ s
-squared zero = refl
-squared (suc s) = rw (pow-succ' 2 s, pow-succ' 4 s) (doubled (2 ^ s) (4 ^ s) (squared s))
+pub spread_rest : (p : Part) (d x : ℕ) → p ≡ Rest d x → Within p → Spreads p (Block x 0 (0 + 2 ^ x)) (Block x (0 + 2 ^ x) 0 ∷ Block x (0 + 2 ^ x) (0 + 2 ^ x) ∷ outside d (x + 1))
+spread_rest p d x e w = rw (e, zero-add, add-one) (spread_out d x (subst Within e w))
 
 -- the square and what lies outside of it
 ring_all : (d x : ℕ) → 4 ^ x + ring d x ≡ 4 ^ (x + suc d)
 ring_all zero x = let e : x + 1 ≡ suc x = omega arith in rw e (omega (arith, pow-succ' 4 x))
 ring_all (suc d) x = let e : x + suc (suc d) ≡ suc x + suc d = omega arith in rw e (omega (arith, ring_all d (suc x), pow-succ' 4 x))
 
-pub outside_all : (d x : ℕ) → 4 ^ x + areas (outside d x) ≡ 4 ^ (x + d)
+pub outside_all : (d x : ℕ) → 4 ^ x + sum_by area (outside d x) ≡ 4 ^ (x + d)
 outside_all zero x = let e : x + 0 ≡ x = omega arith in rw e (omega arith)
 outside_all (suc d) x = omega (arith, ring_all d x)
-
-pub outside_within : (d x : ℕ) → x + d ≤ 6 → All Within (outside d x)
-outside_within = outside_fine

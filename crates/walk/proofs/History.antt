@@ -11,11 +11,8 @@ use Rattle.speck.proofs.Bare.{places_suffice}
 use Rattle.speck.proofs.Consequences.{refused}
 use Rattle.speck.proofs.Trace.{IsOn, run_append, state_at}
 use Rattle.walk.specs.declared.Walk.{Walk}
-use Rattle.walk.specs.declared.asking.Asking.{Asking}
 use Rattle.walk.specs.declared.asking.BitFault.{BitFault}
 use Rattle.walk.specs.declared.asking.BitFault.TheVariants as fault
-use Rattle.walk.specs.declared.lists.Lists.{Lists}
-use Rattle.walk.specs.Layout.{state_in}
 use Rattle.walk.specs.Walks.{Follows, Judged, next_of, state_of}
 
 bare_start : (x k P : ℕ) → bare (start x k P) ≡ start x k P
@@ -38,10 +35,6 @@ judge : (w : Walk) (r : Result (Unit {0}) BitFault) (x k P : ℕ) (bits : List B
 judge w (Ok _) x k P bits h = taken w x k P bits (run (going (start x k P)) bits) refl h
 judge w (Err e) x k P bits h = λ b. let t = (refused x k P bits).1 b in off e (state_of w) (subst IsOn (sym (ap bare_next t.1) ∙ h) tt)
 
--- a step on what is asked and answered
-pub moved : {a d : Asking} {b e : Bool} (l : Lists) → a ≡ d → b ≡ e → place_step (state_in d l) e ≡ place_step (state_in a l) b
-moved {a} {d} {b} {e} l h k = sym (ap (λ i. place_step (state_in i l) b) h ∙ ap (λ i. place_step (state_in d l) i) k)
-
 -- a step of the walk, after bits, is the machine's after the same bits
 pub judges : (w v : Walk) (r : Result (Unit {0}) BitFault) (b : Bool) → next_of r (state_of v) ≡ place_step (state_of w) b → (x k P : ℕ) (bits : List Bool) → Follows w x k P bits → Judged r v x k P (bits ++ b ∷ [])
 judges w v r b h x k P bits f =
@@ -54,9 +47,6 @@ asks_bare (asking n p free noes old new) g bits all h = h
 asks_bare (sign n r c free noes old new) g bits all h = h
 asks_bare (refinement n e todo done noes new) g bits all h = h
 asks_bare (finished noes old) g bits all h = h
-
-pub asked : {a d : Asking} (l : Lists) → a ≡ d → ask (state_in d l) ≡ ask (state_in a l)
-asked l h = sym (ap (λ i. ask (state_in i l)) h)
 
 -- the walk's question, after the first bits of a survey, is the survey's next
 pub asks_on : (w : Walk) (q : Question) → q ≡ ask (state_of w) → (x k P : ℕ) (bits : List Bool) (g : Grid) → Follows w x k P bits → Headed (x + k) P g → Prefix bits (survey x k P g) → AsksOn q g bits (survey x k P g)

@@ -1,63 +1,48 @@
 -- The first question of a plane.
-use Rattle.std.proofs.Common.{◌≡◌, ℕ, zero, suc, ◌+◌, ◌-◌, ◌^◌, ◌<◌, ◌≤◌, true, false, cond, List, [], ◌∷◌, ◌++◌, length, get_or, take, drop, sym, refl, ap, ◌∙◌, subst, add-one, arith, pow_mono}
+use Rattle.std.proofs.Common.{◌≡◌, ℕ, zero, suc, ◌+◌, ◌-◌, ◌^◌, ◌<◌, ◌≤◌, List, [], ◌∷◌, ◌++◌, length, sum_by, get_or, take, drop, sym, refl, ap, ◌∙◌, append-nil, subst, add-one, arith, pow_mono}
+use Rattle.std.proofs.lemmas.List.Sorted.{length_permutation, sum_by-IsPermutation}
+use Rattle.std.proofs.lemmas.List.Sums.{sum_by-cons}
 use Rattle.speck.specs.Grid.{outside}
 use Rattle.speck.specs.declared.Part.TheVariants.{Block}
-use Rattle.std.proofs.lemmas.List.{take_all, drop_all, take-append-drop, nil_from_length, drop_more, length-take-le, get_or-take}
+use Rattle.std.proofs.lemmas.List.{take_all, drop_all, nil_from_length}
 use Rattle.speck.specs.declared.Part.{Part}
 use Rattle.speck.specs.Survey.{Found}
-use Rattle.speck.specs.Survey.{insert, arranged, before}
-use Rattle.speck.specs.Machine.{owing, asking, refinement, finished, enter_plane, go_on_by, refine_on_by, start}
-use Rattle.walk.specs.Parts.{All, Within, area, areas}
-use Rattle.walk.specs.Layout.{Sound, blank}
-use Rattle.walk.proofs.Facts.{outside_all, outside_within}
-use Rattle.walk.proofs.Tiers.{length_arrange}
+use Rattle.speck.specs.Survey.{arranged}
+use Rattle.speck.specs.Machine.{owing, asking, refinement, finished, enter_plane, go_on_by, start}
+use Rattle.std.specs.Global.{Vec}
+use Rattle.std.specs.List.{AllByRecursion}
+use Rattle.walk.specs.Parts.{Within, area}
+use Rattle.walk.specs.Piles.{Stack, laid}
+use Rattle.walk.specs.declared.lists.Lists.{Lists}
+use Rattle.walk.specs.Layout.{Sound, Held, Opened, blank, cells_of, noes_of, todo_of}
+use Rattle.walk.proofs.Facts.{area_pos, length_areas, outside_all, outside_within}
+use Rattle.speck.proofs.Lists.{arranged_moves, each_arranged}
 
-areas_place : (p : Part) (l : List Part) → areas (insert p l) ≡ area p + areas l
-unfolding insert
-areas_place p [] = refl
-areas_place p (q ∷ l) =
-    let h = areas_place p l in
-    elim (before p q) as (λ b. areas (cond b (p ∷ q ∷ l) (q ∷ insert p l)) ≡ area p + (area q + areas l)) [ true ↦ refl | false ↦ omega arith ]
-
-pub areas_arrange : (l : List Part) → areas (arranged l) ≡ areas l
-unfolding arranged
-areas_arrange [] = refl
-areas_arrange (p ∷ l) = omega (arith, areas_place p (arranged l), areas_arrange l)
-
-all_place : (P : Part → Type 0) (p : Part) (l : List Part) → P p → All P l → All P (insert p l)
-unfolding insert
-all_place P p [] a b = (a, tt)
-all_place P p (q ∷ l) a b =
-    let h = all_place P p l a b.1 in
-    elim (before p q) as (λ t. All P (cond t (p ∷ q ∷ l) (q ∷ insert p l))) [ true ↦ (a, b) | false ↦ (b.0, h) ]
-
-pub all_arrange : (P : Part → Type 0) (l : List Part) → All P l → All P (arranged l)
-unfolding arranged
-all_arrange P [] a = tt
-all_arrange P (p ∷ l) a = all_place P p (arranged l) a.0 (all_arrange P l a.1)
+pub gathered : (w : List Part) (old new : Stack) → old.parts ≡ [] → new ≡ laid (arranged w) old → new.parts ≡ arranged w
+gathered w old new o t = ap (λ s. s.parts) t ∙ ap (λ l. arranged w ++ l) o ∙ append-nil (arranged w)
 
 -- a plane ended: the next one's lists
-pub fresh : (n : ℕ) (todo w todo' w' : List Part) (cells : List Found) (kept at kept' r0 r1 r2 r0' r1' : ℕ) → Sound 0 n todo w cells kept at r0 r1 r2 → at ≡ kept → 0 < n → todo' ≡ arranged w → w' ≡ [] → kept' ≡ length cells → r0' ≡ r0 → r1' ≡ r1 → Sound 0 (n - 1) todo' w' cells kept' 0 r0' r1' r2
-fresh n todo w todo' w' cells kept at kept' r0 r1 r2 r0' r1' s a h t z k e f =
-    let y = areas_arrange w in
-    let v : areas todo' ≡ areas (arranged w) = ap areas t in
-    let u : areas w' ≡ 0 = ap areas z in
+pub fresh : (l : Lists) (q : Stack) (v : Vec Part) (kept : ℕ) → Sound 0 l → l.at ≡ l.kept → 0 < l.plane → todo_of l ≡ [] → q ≡ laid (arranged (noes_of l)) l.pending → v.items ≡ [] → v.cap ≡ l.waiting.cap → kept ≡ length (cells_of l) → Sound 0 (record { plane = l.plane - 1; pending = q; waiting = v; found = l.found; kept = kept; at = 0 })
+fresh l q v kept s a h o t z f k =
+    let w = noes_of l in
+    let p : q.parts ≡ arranged w = gathered w l.pending q o t in
+    let i : sum_by area q.parts ≡ sum_by area w = ap (sum_by area) p ∙ sum_by-IsPermutation area w (arranged w) (arranged_moves w) in
+    let j : q.room ≡ l.pending.room = ap (λ x. x.room) t in
+    let u : sum_by area v.items ≡ 0 = ap (sum_by area) z in
     record {
       plane = omega (arith, s.plane);
-      pending = subst (All Within) (sym t) (all_arrange Within w s.waiting);
-      waiting = subst (All Within) (sym z) tt;
-      room0 = omega (arith, s.room0);
-      room1 = omega (arith, s.room1);
-      room2 = omega (arith, s.room2);
+      pending = subst (AllByRecursion Within) (sym p) (each_arranged Within w s.waiting);
+      waiting = subst (AllByRecursion Within) (sym z) tt;
+      room = record { pending = omega (arith, s.room.pending); waiting = omega (arith, s.room.waiting); found = omega (arith, s.room.found) };
       known = omega arith;
       position = omega arith;
     }
 
-pub drawn : (n : ℕ) (p : Part) (todo todo' w : List Part) (cells : List Found) (kept at r0 r1 r2 r0' : ℕ) → Sound 0 n todo w cells kept at r0 r1 r2 → todo ≡ p ∷ todo' → r0' ≡ r0 → Sound (area p) n todo' w cells kept at r0' r1 r2 × Within p
-drawn n p todo todo' w cells kept at r0 r1 r2 r0' s e f =
-    let v : areas todo ≡ area p + areas todo' = ap areas e in
-    let a : All Within (p ∷ todo') = subst (All Within) e s.pending in
-    (record { plane = s.plane; pending = a.1; waiting = s.waiting; room0 = omega (arith, s.room0); room1 = omega (arith, s.room1); room2 = omega (arith, s.room2); known = s.known; position = s.position }, a.0)
+pub drawn : (l : Lists) (p : Part) (q : Stack) → Sound 0 l → l.at ≡ 0 → l.pending ≡ laid (p ∷ []) q → Held p (record l { pending = q })
+drawn l p q s a e =
+    let c = sum_by-cons area p q.parts in
+    let t : Sound 0 (record l { pending = laid (p ∷ []) q }) = subst (λ x. Sound 0 (record l { pending = x })) e s in
+    record { sorts = record { sound = record { plane = t.plane; pending = t.pending.1; waiting = t.waiting; room = record { pending = omega (arith, t.room.pending); waiting = omega (arith, t.room.waiting); found = omega (arith, t.room.found) }; known = t.known; position = t.position }; at = a }; within = t.pending.0 }
 
 -- what the machine asks then
 pub enter_part : (n : ℕ) (p : Part) (todo w w' : List Part) (f : List Found) (kept : ℕ) → 0 < n → arranged w ≡ p ∷ todo → w' ≡ [] → kept ≡ length f → asking (n - 1) p todo w' (take kept f) (drop kept f) ≡ enter_plane n w f
@@ -80,7 +65,7 @@ enter_none (suc n) = enter_none n
 
 pub enter_end : (n : ℕ) (w w' : List Part) (f : List Found) → arranged w ≡ [] → w' ≡ [] → length f ≡ 0 → finished w' f ≡ enter_plane n w f
 enter_end n w w' f a z k =
-    let x : w ≡ [] = nil_from_length w (sym (length_arrange w) ∙ ap length a) in
+    let x : w ≡ [] = nil_from_length w (sym (length_permutation w (arranged w) (arranged_moves w)) ∙ ap length a) in
     let y : f ≡ [] = nil_from_length f k in
     rw (x, y, z) (sym (enter_none n))
 
@@ -88,26 +73,20 @@ pub enter_zero : (n : ℕ) (w : List Part) (f : List Found) → n ≡ 0 → fini
 unfolding enter_plane
 enter_zero n w f e = rw e refl
 
-pub turn_bit : (n i kept : ℕ) (w : List Part) (f : List Found) → i < kept → kept ≤ length f → refinement n (get_or f i blank) (drop (i + 1) (take kept f)) (take i f) w (drop kept f) ≡ refine_on_by (enter_plane n) n (drop i (take kept f)) (take i f) w (drop kept f)
-turn_bit n i kept w f h k =
-    let m = length-take-le kept f k in
-    let e : drop i (take kept f) ≡ get_or f i blank ∷ drop (i + 1) (take kept f) = drop_more (take kept f) i blank (omega arith) ∙ ap (λ x. x ∷ drop (i + 1) (take kept f)) (get_or-take kept f i blank h) in
-    sym (ap (λ t. refine_on_by (enter_plane n) n t (take i f) w (drop kept f)) e)
-
-pub turn_end : (n i kept : ℕ) (w : List Part) (f : List Found) → i ≡ kept → kept ≤ length f → enter_plane n w f ≡ refine_on_by (enter_plane n) n (drop i (take kept f)) (take i f) w (drop kept f)
-turn_end n i kept w f h k =
-    let m = length-take-le kept f k in
-    let e : drop i (take kept f) ≡ [] = drop_all i (take kept f) (omega arith) in
-    let g : take i f ++ drop kept f ≡ f = ap (λ j. take j f ++ drop kept f) h ∙ take-append-drop kept f in
-    sym (ap (λ t. refine_on_by (enter_plane n) n t (take i f) w (drop kept f)) e ∙ ap (enter_plane n w) g)
-
 -- the first question of all
 pub first_state : (x k n remaining kept : ℕ) (todo noes : List Part) (cells : List Found) → todo ≡ outside k x → noes ≡ [] → cells ≡ [] → kept ≡ 0 → remaining ≡ length (outside k x) → owing n (Block x 0 0) (take remaining todo) (drop remaining todo) noes (take kept cells) (drop kept cells) ≡ start x k (n + 1)
 first_state x k n remaining kept todo noes cells e f g h i = rw (e, f, g, h, i, take_all (length (outside k x)) (outside k x) (omega arith), drop_all (length (outside k x)) (outside k x) (omega arith), add-one) refl
 
-pub first_sound : (x k n kept at r0 r1 r2 : ℕ) (todo noes : List Part) (cells : List Found) → n ≤ 14 → x + k ≤ 6 → todo ≡ outside k x → noes ≡ [] → cells ≡ [] → kept ≡ 0 → at ≡ 0 → 4 ^ (x + k) ≤ r0 → 4 ^ (x + k) ≤ r1 → 4 ^ (x + k) ≤ r2 → Sound (4 ^ x) n todo noes cells kept at r0 r1 r2
-first_sound x k n kept at r0 r1 r2 todo noes cells h w e f g i j a b c =
-    rw (e, f, g, i, j) (record { plane = h; pending = outside_within k x w; waiting = tt; room0 = omega (arith, outside_all k x); room1 = omega (arith, outside_all k x); room2 = omega (arith, outside_all k x); known = omega arith; position = omega arith })
+pub first_sound : (l : Lists) (x k n : ℕ) (q : Stack) → Opened (4 ^ (x + k)) n l → l.plane ≤ 14 → x + k ≤ 6 → q.parts ≡ outside k x → q.room ≡ l.pending.room → Sound (4 ^ x) (record l { pending = q })
+first_sound l x k n q o h w t r =
+    let a : 4 ^ x + sum_by area q.parts ≡ 4 ^ (x + k) = ap (λ ps. 4 ^ x + sum_by area ps) t ∙ outside_all k x in
+    let b : sum_by area (noes_of l) ≡ 0 = ap (sum_by area) o.noes in
+    let c : length (cells_of l) ≡ 0 = ap length o.cells in
+    record { plane = h; pending = subst (AllByRecursion Within) (sym t) (outside_within k x w); waiting = subst (AllByRecursion Within) (sym o.noes) tt; room = record { pending = omega (arith, o.room.pending); waiting = omega (arith, o.room.waiting); found = omega (arith, o.room.found) }; known = omega (arith, o.kept); position = omega (arith, o.kept, o.at) }
 
 pub first_within : (x k : ℕ) → x + k ≤ 6 → Within (Block x 0 0)
 first_within x k h = let m : 2 ^ x ≤ 2 ^ 6 = pow_mono {i = x} {j = 6} (omega arith) in (omega arith, omega arith, omega arith)
+
+-- there is room for what lies outside the corner
+pub first_room : (d x : ℕ) → length (outside d x) < 4 ^ (x + d)
+first_room d x = omega (arith, outside_all d x, length_areas (outside d x), area_pos (Block x 0 0))

@@ -1,19 +1,18 @@
 -- What the walk's fields stand for in the machine, and what holds of them.
-use Rattle.std.specs.Prelude.{◌≡◌, ℕ, ◌+◌, ◌<◌, ◌≤◌, List, [], map, length, take, drop, slice_index_or}
+use Rattle.std.specs.Prelude.{◌≡◌, ℕ, ◌+◌, ◌<◌, ◌≤◌, List, [], map, sum_by, length, take, drop, slice_index_or, Option, Some, None}
+use Rattle.std.specs.List.{AllByRecursion}
 use Rattle.speck.specs.declared.Part.{Part}
-use Rattle.speck.specs.declared.Part.TheVariants.{Block, Rest}
 use Rattle.speck.specs.Survey.{Found}
 use Rattle.walk.specs.declared.asking.Asking.{Asking}
 use Rattle.walk.specs.declared.asking.Asking.TheVariants as asking'
 use Rattle.walk.specs.declared.lists.Cell.{Cell}
 use Rattle.walk.specs.declared.lists.Lists.{Lists}
-use Rattle.walk.specs.Parts.{All, Within, area, areas}
-use Rattle.walk.specs.Piles.{pile_of, room_of}
+use Rattle.walk.specs.Parts.{Within, area}
 use Rattle.speck.specs.Places.{placed}
-use Rattle.speck.specs.Machine.{State, owing, asking, sign, refinement, finished}
+use Rattle.speck.specs.Machine.{State, Next, going, owing, asking, sign, refinement, finished}
 
 abbrev pub todo_of : Lists → List Part
-todo_of l = pile_of l.pending
+todo_of l = l.pending.parts
 
 abbrev pub noes_of : Lists → List Part
 noes_of l = l.waiting.items
@@ -36,55 +35,59 @@ done_of l = take l.at (cells_of l)
 abbrev pub blank : Found
 blank = placed 0 0
 
-abbrev pub state_by : Asking → ℕ → List Part → List Part → List Found → ℕ → ℕ → State
-state_by (asking'.Block s r c) n todo noes cells kept at = asking n (Block s r c) todo noes (take kept cells) (drop kept cells)
-state_by (asking'.Quarter p k) n todo noes cells kept at = owing n p (take k todo) (drop k todo) noes (take kept cells) (drop kept cells)
-state_by (asking'.Rest d x) n todo noes cells kept at = asking n (Rest d x) todo noes (take kept cells) (drop kept cells)
-state_by (asking'.Sign r c) n todo noes cells kept at = sign n r c todo noes (take kept cells) (drop kept cells)
-state_by asking'.Refinement n todo noes cells kept at = refinement n (slice_index_or cells at blank) (drop (at + 1) (take kept cells)) (take at cells) noes (drop kept cells)
-state_by asking'.Whole n todo noes cells kept at = finished noes cells
+abbrev pub state_in : Option Asking → Lists → State
+state_in (Some (asking'.Part p)) l = asking l.plane p (todo_of l) (noes_of l) (old_of l) (new_of l)
+state_in (Some (asking'.Quarter p k)) l = owing l.plane p (take k (todo_of l)) (drop k (todo_of l)) (noes_of l) (old_of l) (new_of l)
+state_in (Some (asking'.Sign c)) l = sign l.plane c.row c.column (todo_of l) (noes_of l) (old_of l) (new_of l)
+state_in (Some asking'.Refinement) l = refinement l.plane (slice_index_or (cells_of l) l.at blank) (drop (l.at + 1) (old_of l)) (done_of l) (noes_of l) (new_of l)
+state_in None l = finished (noes_of l) (cells_of l)
 
-abbrev pub state_in : Asking → Lists → State
-state_in a l = state_by a l.plane (todo_of l) (noes_of l) (cells_of l) l.kept l.at
+-- each of the three lists has room for so many
+pub record RoomFor (n : ℕ) (l : Lists) : Type 0 where
+  pub pending : n ≤ l.pending.room
+  pub waiting : n ≤ l.waiting.cap
+  pub found : n ≤ l.found.cap
 
 -- there is room for what is pending, what was waiting, what was found and so many more cells
-pub record Sound (more : ℕ) (n : ℕ) (todo noes : List Part) (cells : List Found) (kept at room₀ room₁ room₂ : ℕ) : Type 0 where
-  pub plane : n ≤ 14
-  pub pending : All Within todo
-  pub waiting : All Within noes
-  pub room0 : more + areas todo + areas noes + length cells ≤ room₀
-  pub room1 : more + areas todo + areas noes + length cells ≤ room₁
-  pub room2 : more + areas todo + areas noes + length cells ≤ room₂
-  pub known : kept ≤ length cells
-  pub position : at ≤ kept
+pub record Sound (more : ℕ) (l : Lists) : Type 0 where
+  pub plane : l.plane ≤ 14
+  pub pending : AllByRecursion Within (todo_of l)
+  pub waiting : AllByRecursion Within (noes_of l)
+  pub room : RoomFor (more + sum_by area (todo_of l) + sum_by area (noes_of l) + length (cells_of l)) l
+  pub known : l.kept ≤ length (cells_of l)
+  pub position : l.at ≤ l.kept
 
-abbrev pub SoundIn : ℕ → Lists → Type 0
-SoundIn more l = Sound more l.plane (todo_of l) (noes_of l) (cells_of l) l.kept l.at (room_of l.pending) l.waiting.cap l.found.cap
-
-pub record Opened (room n : ℕ) (l : Lists) : Type 0 where
+pub record Opened (size n : ℕ) (l : Lists) : Type 0 where
   pub plane : l.plane ≡ n
   pub todo : todo_of l ≡ []
   pub noes : noes_of l ≡ []
   pub cells : cells_of l ≡ []
   pub kept : l.kept ≡ 0
   pub at : l.at ≡ 0
-  pub room0 : room ≤ room_of l.pending
-  pub room1 : room ≤ l.waiting.cap
-  pub room2 : room ≤ l.found.cap
+  pub room : RoomFor size l
 
 pub record Sorts (more : ℕ) (l : Lists) : Type 0 where
-  pub sound : SoundIn more l
+  pub sound : Sound more l
   pub at : l.at ≡ 0
 
 pub record Refines (l : Lists) : Type 0 where
-  pub sound : SoundIn 0 l
+  pub sound : Sound 0 l
   pub none : length (todo_of l) ≡ 0
   pub at : l.at < l.kept
 
-abbrev pub Good : Asking → Lists → Type 0
-Good (asking'.Block s r c) l = Sorts (area (Block s r c)) l × Within (Block s r c)
-Good (asking'.Quarter p k) l = Sorts (area p) l × Within p × (k ≤ length (todo_of l))
-Good (asking'.Rest d x) l = Sorts (area (Rest d x)) l × Within (Rest d x)
-Good (asking'.Sign r c) l = Sorts 1 l
-Good asking'.Refinement l = Refines l
-Good asking'.Whole l = Unit {0}
+-- the part is within the grid, and there is room for its cells
+pub record Held (p : Part) (l : Lists) : Type 0 where
+  pub sorts : Sorts (area p) l
+  pub within : Within p
+
+abbrev pub Good : Option Asking → Lists → Type 0
+Good (Some (asking'.Part p)) l = Held p l
+Good (Some (asking'.Quarter p k)) l = Held p l × (k ≤ length (todo_of l))
+Good (Some (asking'.Sign c)) l = Sorts 1 l
+Good (Some asking'.Refinement) l = Refines l
+Good None l = Unit {0}
+
+-- what is asked of the lists is what the machine goes on to
+pub record Now (a : Option Asking) (l : Lists) (n : Next) : Type 0 where
+  pub state : going (state_in a l) ≡ n
+  pub good : Good a l

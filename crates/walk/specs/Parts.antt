@@ -1,18 +1,11 @@
 -- Parts within the grid, and how many cells they have.
-use Rattle.std.specs.Prelude.{ℕ, zero, suc, ◌+◌, ◌*◌, ◌^◌, ◌<◌, ◌≤◌, List, [], ◌∷◌}
+use Rattle.std.specs.Prelude.{ℕ, zero, suc, ◌+◌, ◌*◌, ◌^◌, ◌<◌, ◌≤◌}
 use Rattle.speck.specs.declared.Part.{Part}
 use Rattle.speck.specs.declared.Part.TheVariants.{Block, Rest}
 use Rattle.head.specs.declared.refusals.Refusal.{Refusal}
 use Rattle.head.specs.declared.refusals.Refusal.TheVariants as refusal
-use Rattle.walk.specs.declared.asking.Asking.{Asking}
-use Rattle.walk.specs.declared.asking.Asking.TheVariants as asking
 use Rattle.walk.specs.declared.asking.BitFault.{BitFault}
 use Rattle.walk.specs.declared.asking.BitFault.TheVariants as fault
-
--- what holds of each
-abbrev pub All : {X : Type 0} → (X → Type 0) → List X → Type 0
-All P [] = Unit {0}
-All P (x ∷ xs) = P x × All P xs
 
 -- the part lies within 64 rows and 64 columns
 abbrev pub Within : Part → Type 0
@@ -27,15 +20,6 @@ ring (suc d) x = 3 * 4 ^ x + ring d (suc x)
 abbrev pub area : Part → ℕ
 area (Block s r c) = 4 ^ s
 area (Rest d x) = ring d x
-
-abbrev pub areas : List Part → ℕ
-areas [] = 0
-areas (p ∷ ps) = area p + areas ps
-
--- the state that asks a part whose set owes nothing
-abbrev pub waiting_of : Part → Asking
-waiting_of (Block s r c) = asking.Block s r c
-waiting_of (Rest d x) = asking.Rest d x
 
 -- which refusal a fault of a bit is
 abbrev pub refusal_of : BitFault → Refusal

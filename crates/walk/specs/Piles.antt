@@ -1,10 +1,15 @@
--- A pile as the list of its parts, the next one first, and the room that is reserved for it.
-use Rattle.std.specs.Prelude.{ℕ, List, reverse}
+-- What a pile is in contracts: its parts, the next one first, and the room that is reserved for them.
+use Rattle.std.specs.Prelude.{ℕ, ◌+◌, ◌≤◌, List, ◌++◌, length}
 use Rattle.speck.specs.declared.Part.{Part}
-use Rattle.walk.specs.declared.pile.Pile.{Pile}
 
-unfoldable pub pile_of : Pile → List Part
-pile_of p = reverse p.items.items
+pub record Stack : Type 0 where
+  pub parts : List Part
+  pub room : ℕ
 
-abbrev pub room_of : Pile → ℕ
-room_of p = p.items.cap
+-- the parts put on it, the first on top
+abbrev pub laid : List Part → Stack → Stack
+laid ps s = record { parts = ps ++ s.parts; room = s.room }
+
+-- it has room for so many more
+abbrev pub HasRoom : ℕ → Stack → Type 0
+HasRoom n s = n + length s.parts ≤ s.room

@@ -1,5 +1,5 @@
 -- The walk as a state of the machine.
-use Rattle.std.specs.Prelude.{◌≡◌, ℕ, Bool, List, Ok, Err, Result}
+use Rattle.std.specs.Prelude.{◌≡◌, ℕ, Bool, List, Ok, Err, Result, Some, None, Option}
 use Rattle.walk.specs.declared.Walk.{Walk}
 use Rattle.walk.specs.declared.asking.BitFault.{BitFault}
 use Rattle.walk.specs.declared.asking.BitFault.TheVariants as fault
@@ -21,11 +21,11 @@ next_of (Err fault.Contradiction) s = contradiction
 next_of (Err fault.Surplus) s = surplus
 
 -- the machine's question that a question of the walk is
-abbrev pub asks : Question → machine.Question
-asks (question.Significant n p) = significant? n p
-asks (question.Negative r c) = negative? r c
-asks (question.Bit n r c) = bit? n (placed r c)
-asks question.Nothing = nothing?
+abbrev pub asks : Option Question → machine.Question
+asks (Some (question.Significant n p)) = significant? n p
+asks (Some (question.Negative r c)) = negative? r c
+asks (Some (question.Bit n r c)) = bit? n (placed r c)
+asks None = nothing?
 
 -- The walk has taken these bits, from the opening for the head of a grid of side 2^(x + k), k levels and P planes.
 pub record Follows (w : Walk) (x k P : ℕ) (bits : List Bool) : Type 0 where

@@ -18,7 +18,7 @@ pub(crate) struct Lists {
     pub(crate) pending: Pile,
     // What said no in this plane, and waits for the next.
     pub(crate) waiting: Vec<Part>,
-    // The cells found so far: the first `kept` before this plane, of which the first `at` are refined.
+    // The cells found so far: the first `kept` before this plane, of which the first `at` are refined. One list with two marks, since to join two at a plane's end takes work for each cell.
     pub(crate) found: Vec<Cell>,
     pub(crate) kept: usize,
     pub(crate) at: usize,

@@ -9,7 +9,7 @@ ghost use Rattle.walk.specs.Walks.{Follows, Judged, asks, next_of, state_of};
 
 use super::*;
 use head::Head;
-use speck::Part;
+use lists::Cell;
 use std::alloc::{AllocError, Global};
 
 impl Walk {
@@ -21,47 +21,38 @@ impl Walk {
         let shape = head.shape();
         let levels = shape.levels();
         let side = shape.exponent() - levels;
-        let planes = head.planes();
-        if planes == 0 {
-            let mut lists = Lists::open(heap, 2, 0)?;
-            lists.rest_all(side, levels);
-            return Ok(Walk {
-                lists,
-                asking: Asking::Whole,
-            });
-        }
-        let mut lists = Lists::open(heap, shape.area(), planes - 1)?;
-        let asking = lists.ask_first(side, levels);
+        let (lists, asking) = match head.planes().checked_sub(1) {
+            Some(plane) => {
+                let mut lists = Lists::open(heap, shape.area(), plane)?;
+                let asking = lists.ask_first(side, levels);
+                (lists, Some(asking))
+            }
+            None => {
+                let mut lists = Lists::open(heap, 2, 0)?;
+                lists.rest_all(side, levels);
+                (lists, None)
+            }
+        };
         Ok(Walk { lists, asking })
     }
 
-    // What the next bit answers.
-    pub fn question(&self) -> Question
+    // What the next bit answers; None: the survey is whole.
+    pub fn question(&self) -> Option<Question>
         ensures machine { asks result ≡ ask (state_of self.now) }
         ensures next { (x k P : ℕ) (bits : List Bool) (g : Grid) → Follows self.now x k P bits → Headed (x + k) P g → Prefix bits (survey x k P g) → AsksOn (asks result) g bits (survey x k P g) }
     {
         let plane = self.lists.plane;
-        match self.asking {
-            Asking::Block { side, row, column } => Question::Significant {
+        Some(match self.asking? {
+            Asking::Part(part) | Asking::Quarter { part, .. } => Question::Significant {
                 plane,
-                part: Part::Block { side, row, column },
+                part,
             },
-            Asking::Quarter { part, .. } => Question::Significant { plane, part },
-            Asking::Rest { deeper, side } => Question::Significant {
-                plane,
-                part: Part::Rest { deeper, side },
-            },
-            Asking::Sign { row, column } => Question::Negative { row, column },
+            Asking::Sign(Cell { row, column }) => Question::Negative { row, column },
             Asking::Refinement => {
-                let cell = self.lists.found[self.lists.at];
-                Question::Bit {
-                    plane,
-                    row: cell.row,
-                    column: cell.column,
-                }
+                let Cell { row, column } = self.lists.found[self.lists.at];
+                Question::Bit { plane, row, column }
             }
-            Asking::Whole => Question::Nothing,
-        }
+        })
     }
 
     // Takes the answer to the question. A refused one changes nothing.
@@ -70,30 +61,16 @@ impl Walk {
         ensures judged { (x k P : ℕ) (bits : List Bool) → Follows self.old x k P bits → Judged result self.new x k P (bits ++ answer ∷ []) }
         ensures stays { OnErr result (self.new ≡ self.old) }
     {
-        match (self.asking, answer) {
-            (Asking::Quarter { part, .. }, true) => self.asking = self.lists.unfold_part(part),
-            (Asking::Quarter { part, left }, false) => {
-                if left == 0 {
-                    return Err(BitFault::Contradiction);
-                }
-                self.asking = self.lists.pass_on(part, left);
-            }
-            (Asking::Block { side, row, column }, true) => self.asking = self
+        self.asking = match (self.asking.ok_or(BitFault::Surplus)?, answer) {
+            (Asking::Part(part) | Asking::Quarter { part, .. }, true) => self
                 .lists
-                .unfold_part(Part::Block { side, row, column }),
-            (Asking::Block { side, row, column }, false) => self.asking = self
-                .lists
-                .pass(Part::Block { side, row, column }),
-            (Asking::Rest { deeper, side }, true) => self.asking = self
-                .lists
-                .unfold_part(Part::Rest { deeper, side }),
-            (Asking::Rest { deeper, side }, false) => self.asking = self
-                .lists
-                .pass(Part::Rest { deeper, side }),
-            (Asking::Sign { row, column }, _) => self.asking = self.lists.find(row, column),
-            (Asking::Refinement, _) => self.asking = self.lists.refine(),
-            (Asking::Whole, _) => return Err(BitFault::Surplus),
-        }
+                .unfold_part(part),
+            (Asking::Part(part), false) => self.lists.pass(part),
+            (Asking::Quarter { left: 0, .. }, false) => return Err(BitFault::Contradiction),
+            (Asking::Quarter { part, left }, false) => self.lists.pass_on(part, left),
+            (Asking::Sign(cell), _) => self.lists.find(cell),
+            (Asking::Refinement, _) => self.lists.refine(),
+        };
         Ok(())
     }
 
@@ -102,8 +79,8 @@ impl Walk {
         ensures { result ≡ open_planes (state_of self.now) }
     {
         match self.asking {
-            Asking::Whole => 0,
-            _ => self.lists.plane + 1,
+            None => 0,
+            Some(_) => self.lists.plane + 1,
         }
     }
 }

@@ -1,14 +1,15 @@
-ghost use Rattle.std.specs.Prelude.{◌≡◌, ◌+◌, ◌^◌, ◌<◌, ◌≤◌, false, [], ◌∷◌, ◌++◌, length, drop, IfOk, slice_index_or};
-ghost use Rattle.speck.specs.Grid.{view, outside};
-ghost use Rattle.speck.specs.Places.{place_step as stepped, placed};
-ghost use Rattle.speck.specs.Machine.{enter_plane, refine_on as turned, go_on as gone, unfolded as opened, going, start};
-ghost use Rattle.walk.specs.Parts.{Within, area};
-ghost use Rattle.walk.specs.Layout.{todo_of, noes_of, cells_of, old_of, new_of, done_of, state_in, SoundIn, Sorts, Refines, Good, blank, Opened};
+ghost use Rattle.std.specs.Prelude.{◌≡◌, ◌+◌, ◌^◌, ◌<◌, ◌≤◌, Some, true, false, [], ◌∷◌, drop, IfOk};
+ghost use Rattle.speck.specs.Grid.{outside};
+ghost use Rattle.speck.specs.Places.{place_step};
+ghost use Rattle.speck.specs.Machine.{enter_plane, refine_on, go_on, going, start};
+ghost use Rattle.walk.specs.Parts.{Within};
+ghost use Rattle.walk.specs.Layout.{todo_of, noes_of, cells_of, old_of, new_of, done_of, state_in, Sound, Sorts, Good, Now, Opened};
 
 use super::*;
 use crate::asking::*;
 use std::alloc::{AllocError, Global};
 
+// The moves are the lists' and answer what is asked next: those of a walk would have to be told what it asks already.
 impl Lists {
     pub(crate) fn open(heap: Global, room: usize, plane: u8) -> Result<Lists, AllocError>
         ensures { IfOk result (λ l. Opened room plane l) }
@@ -38,11 +39,8 @@ impl Lists {
             row: 0,
             column: 0,
         });
-        if levels > 0 {
-            self.waiting.push_reserved(Part::Rest {
-                deeper: levels - 1,
-                side,
-            });
+        if let Some(rest) = Part::outside(levels, side) {
+            self.waiting.push_reserved(rest);
         }
     }
 
@@ -51,201 +49,144 @@ impl Lists {
         requires side { side + levels ≤ 6 }
         requires opened { Opened (4 ^ (side + levels)) self.old.plane self.old }
         requires plane { self.old.plane ≤ 14 }
-        ensures state { state_in result self.new ≡ start side levels (self.old.plane + 1) }
-        ensures good { Good result self.new }
+        ensures { Now (Some result) self.new (going (start side levels (self.old.plane + 1))) }
     {
-        let left = self.pending.put_outside(levels, side);
+        let rest = Part::outside(levels, side);
+        self.pending.put_all(rest.into_iter());
         Asking::Quarter {
             part: Part::Block {
                 side,
                 row: 0,
                 column: 0,
             },
-            left,
+            left: u8::from(rest.is_some()),
         }
     }
 
-    // A part that said yes: its cell, or its own parts.
-    pub(crate) fn unfold_part(&mut self, part: Part) -> Asking
-        requires within { Within part }
-        requires sorts { Sorts (area part) self.old }
-        ensures state { state_in result self.new ≡ opened self.old.plane (view part) (todo_of self.old) (noes_of self.old) (old_of self.old) (new_of self.old) }
-        ensures good { Good result self.new }
+    // A part that said yes: its cell, or its own parts, of which one has to say yes.
+    pub(crate) fn unfold_part(&mut self, part: Part) -> Option<Asking>
+        requires { Good (Some (Asking.Part part)) self.old }
+        ensures { Now result self.new (place_step (state_in (Some (Asking.Part part)) self.old) true) }
     {
         match part {
+            Part::Block {
+                side: 0,
+                row,
+                column,
+            } => Some(Asking::Sign(Cell { row, column })),
             Part::Block { side, row, column } => {
-                if side == 0 {
-                    return Asking::Sign { row, column };
-                }
-                self.quarter(side, row, column)
+                let [part, across, below, last] = quarters(side - 1, row, column);
+                self.pending.put_all([last, below, across].iter().copied());
+                Some(Asking::Quarter { part, left: 3 })
             }
-            Part::Rest { deeper, side } => self.widen(deeper, side),
-        }
-    }
-
-    // The quarters of a block, of which one has to say yes.
-    fn quarter(&mut self, side: u8, row: u8, column: u8) -> Asking
-        requires some { 0 < side }
-        requires within { Within (Part.Block side row column) }
-        requires sorts { Sorts (area (Part.Block side row column)) self.old }
-        ensures state { state_in result self.new ≡ opened self.old.plane (view (Part.Block side row column)) (todo_of self.old) (noes_of self.old) (old_of self.old) (new_of self.old) }
-        ensures good { Good result self.new }
-    {
-        let side = side - 1;
-        let half = extent(side);
-        let b = Part::Block {
-            side,
-            row,
-            column: column + half,
-        };
-        let c = Part::Block {
-            side,
-            row: row + half,
-            column,
-        };
-        let d = Part::Block {
-            side,
-            row: row + half,
-            column: column + half,
-        };
-        self.pending.put_three(b, c, d);
-        Asking::Quarter {
-            part: Part::Block { side, row, column },
-            left: 3,
-        }
-    }
-
-    // The three blocks around the square and the new rest, of which one has to say yes.
-    fn widen(&mut self, deeper: u8, side: u8) -> Asking
-        requires within { Within (Part.Rest deeper side) }
-        requires sorts { Sorts (area (Part.Rest deeper side)) self.old }
-        ensures state { state_in result self.new ≡ opened self.old.plane (view (Part.Rest deeper side)) (todo_of self.old) (noes_of self.old) (old_of self.old) (new_of self.old) }
-        ensures good { Good result self.new }
-    {
-        let half = extent(side);
-        let more = self.pending.put_outside(deeper, side + 1);
-        let below = Part::Block {
-            side,
-            row: half,
-            column: 0,
-        };
-        let across = Part::Block {
-            side,
-            row: half,
-            column: half,
-        };
-        self.pending.put_two(below, across);
-        Asking::Quarter {
-            part: Part::Block {
-                side,
-                row: 0,
-                column: half,
-            },
-            left: 2 + more,
+            Part::Rest { deeper, side } => {
+                let [_, part, below, last] = quarters(side, 0, 0);
+                let rest = Part::outside(deeper, side + 1);
+                self.pending.put_all(rest.into_iter());
+                self.pending.put_all([last, below].iter().copied());
+                Some(Asking::Quarter {
+                    part,
+                    left: 2 + u8::from(rest.is_some()),
+                })
+            }
         }
     }
 
     // The next part that waits, or else the next bit of a found cell.
-    pub(crate) fn ask_on(&mut self) -> Asking
+    pub(crate) fn ask_on(&mut self) -> Option<Asking>
         requires { Sorts 0 self.old }
-        ensures state { state_in result self.new ≡ gone self.old.plane (todo_of self.old) (noes_of self.old) (old_of self.old) (new_of self.old) }
-        ensures good { Good result self.new }
+        ensures { Now result self.new (going (go_on self.old.plane (todo_of self.old) (noes_of self.old) (old_of self.old) (new_of self.old))) }
     {
         match self.pending.draw() {
-            Some(part) => ask_freely(part),
+            Some(part) => Some(Asking::Part(part)),
             None => self.refine_on(),
         }
     }
 
     // The next bit of a found cell, or else the next plane.
-    fn refine_on(&mut self) -> Asking
-        requires sound { SoundIn 0 self.old }
+    fn refine_on(&mut self) -> Option<Asking>
+        requires sound { Sound 0 self.old }
         requires none { todo_of self.old ≡ [] }
-        ensures state { state_in result self.new ≡ turned self.old.plane (drop self.old.at (old_of self.old)) (done_of self.old) (noes_of self.old) (new_of self.old) }
-        ensures good { Good result self.new }
+        ensures { Now result self.new (going (refine_on self.old.plane (drop self.old.at (old_of self.old)) (done_of self.old) (noes_of self.old) (new_of self.old))) }
     {
         if self.at < self.kept {
-            Asking::Refinement
+            Some(Asking::Refinement)
         } else {
             self.next_plane()
         }
     }
 
-    // The first question of the next plane.
-    fn next_plane(&mut self) -> Asking
-        requires sound { SoundIn 0 self.old }
+    // The first question of the next plane, if it is not the last one.
+    fn next_plane(&mut self) -> Option<Asking>
+        requires sound { Sound 0 self.old }
         requires none { todo_of self.old ≡ [] }
         requires at { self.old.at ≡ self.old.kept }
-        ensures state { state_in result self.new ≡ enter_plane self.old.plane (noes_of self.old) (cells_of self.old) }
-        ensures good { Good result self.new }
+        ensures { Now result self.new (going (enter_plane self.old.plane (noes_of self.old) (cells_of self.old))) }
     {
-        if self.plane == 0 {
-            return Asking::Whole;
-        }
-        self.plane -= 1;
+        self.plane = self.plane.checked_sub(1)?;
         self.kept = self.found.len();
         self.at = 0;
         self.pending.gather(self.waiting.as_slice());
         self.waiting.clear();
         match self.pending.draw() {
-            Some(part) => ask_freely(part),
-            None => {
-                if self.kept > 0 {
-                    Asking::Refinement
-                } else {
-                    Asking::Whole
-                }
-            }
+            Some(part) => Some(Asking::Part(part)),
+            None => (self.kept > 0).then_some(Asking::Refinement),
         }
     }
 
     // A part that waited said no.
-    pub(crate) fn pass(&mut self, part: Part) -> Asking
-        requires within { Within part }
-        requires sorts { Sorts (area part) self.old }
-        ensures state { state_in result self.new ≡ gone self.old.plane (todo_of self.old) (noes_of self.old ++ part ∷ []) (old_of self.old) (new_of self.old) }
-        ensures good { Good result self.new }
+    pub(crate) fn pass(&mut self, part: Part) -> Option<Asking>
+        requires { Good (Some (Asking.Part part)) self.old }
+        ensures { Now result self.new (place_step (state_in (Some (Asking.Part part)) self.old) false) }
     {
         self.waiting.push_reserved(part);
         self.ask_on()
     }
 
     // A part of a group that owes a yes said no, and it was not the last.
-    pub(crate) fn pass_on(&mut self, part: Part, left: u8) -> Asking
-        requires within { Within part }
-        requires sorts { Sorts (area part) self.old }
+    pub(crate) fn pass_on(&mut self, part: Part, left: u8) -> Option<Asking>
         requires some { 0 < left }
-        requires left { left ≤ length (todo_of self.old) }
-        ensures state { going (state_in result self.new) ≡ stepped (state_in (Asking.Quarter part left) self.old) false }
-        ensures good { Good result self.new }
+        requires good { Good (Some (Asking.Quarter part left)) self.old }
+        ensures { Now result self.new (place_step (state_in (Some (Asking.Quarter part left)) self.old) false) }
     {
         self.waiting.push_reserved(part);
-        match self.pending.draw() {
-            Some(part) => Asking::Quarter {
-                part,
-                left: left - 1,
-            },
-            None => unreachable(),
-        }
+        let part = self.pending.draw()?;
+        Some(Asking::Quarter {
+            part,
+            left: left - 1,
+        })
     }
 
     // A cell was found: its sign came.
-    pub(crate) fn find(&mut self, row: u8, column: u8) -> Asking
-        requires { Sorts 1 self.old }
-        ensures state { state_in result self.new ≡ gone self.old.plane (todo_of self.old) (noes_of self.old) (old_of self.old) (new_of self.old ++ placed row column ∷ []) }
-        ensures good { Good result self.new }
+    pub(crate) fn find(&mut self, cell: Cell) -> Option<Asking>
+        requires { Good (Some (Asking.Sign cell)) self.old }
+        ensures { Now result self.new (place_step (state_in (Some (Asking.Sign cell)) self.old) true) }
     {
-        self.found.push_reserved(Cell { row, column });
+        self.found.push_reserved(cell);
         self.ask_on()
     }
 
     // A bit of a found cell came.
-    pub(crate) fn refine(&mut self) -> Asking
-        requires { Refines self.old }
-        ensures state { state_in result self.new ≡ turned self.old.plane (drop (self.old.at + 1) (old_of self.old)) (done_of self.old ++ slice_index_or (cells_of self.old) self.old.at blank ∷ []) (noes_of self.old) (new_of self.old) }
-        ensures good { Good result self.new }
+    pub(crate) fn refine(&mut self) -> Option<Asking>
+        requires { Good (Some Asking.Refinement) self.old }
+        ensures { Now result self.new (place_step (state_in (Some Asking.Refinement) self.old) true) }
     {
         self.at += 1;
         self.refine_on()
     }
+}
+
+// The four blocks of side 2^side whose top left one is at row and column.
+fn quarters(side: u8, row: u8, column: u8) -> [Part; 4]
+    requires { Within (Part.Block side row column) }
+    ensures { result ≡ Part.Block side row column ∷ Part.Block side row (column + 2 ^ side) ∷ Part.Block side (row + 2 ^ side) column ∷ Part.Block side (row + 2 ^ side) (column + 2 ^ side) ∷ [] }
+{
+    let half = 1 << side;
+    let at = |row, column| Part::Block { side, row, column };
+    [
+        at(row, column),
+        at(row, column + half),
+        at(row + half, column),
+        at(row + half, column + half),
+    ]
 }

@@ -1,16 +1,27 @@
-use Rattle.std.proofs.Common.{length, ap, ◌∙◌, arith}
-use Rattle.walk.specs.Piles.{pile_of, room_of}
+use Rattle.std.proofs.Common.{◌-◌, ap, ◌∙◌, rules, arith, tests, length-append}
+use Rattle.speck.specs.Survey.{is_rest, has_side, rests, of_side}
+use Rattle.walk.specs.Piles.{laid}
+use Rattle.walk.proofs.Piles.{chain_room, chain_laid, laid_twice, reverse-filter, sifted}
 use Rattle.walk.proofs.Tiers.{whole, tier_room, tier_more, tier_all}
 use Rattle.walk.proofs.pile.Pile.gather.Goals as goal
 
-pub put_rests-requires : goal.put_rests-requires
-put_rests-requires c = omega (arith, ap length c.requires.empty, whole c.args.parts.now c.requires.within, c.requires.room)
+pub put_all-requires-clause-room : goal.put_all-requires-clause-room
+put_all-requires-clause-room c =
+    chain_room c.args.self.now (rests c.args.parts.now) (sifted _ is_rest c.args.parts.now c.copied.ensures.source c.filter.ensures.source (cc) c.filter.ensures.closure (λ x b q k. search (rules, tests))) (reverse-filter is_rest c.args.parts.now) (omega (arith, whole c.args.parts.now c.requires.within))
 
-pub put_side-requires : goal.put_side-requires
-put_side-requires c = record { room = tier_room c.loop-side.side c.args.parts.now (pile_of c.loop-side.self) (room_of c.loop-side.self) c.loop-side-test.true c.loop-side.invariant.0 c.requires.within c.loop-side.invariant.1 (omega (arith, c.requires.room, c.put_rests.ensures.room, c.loop-side.invariant.2)) }
+pub loop-side-init : goal.loop-side-init
+loop-side-init c =
+    (omega arith, chain_laid c.args.self.now c.put_all.new.self (rests c.args.parts.now) (sifted _ is_rest c.args.parts.now c.copied.ensures.source c.filter.ensures.source (cc) c.filter.ensures.closure (λ x b q k. search (rules, tests))) (reverse-filter is_rest c.args.parts.now) c.put_all.ensures)
+
+pub put_all-requires-in-loop-side-clause-room : goal.put_all-requires-in-loop-side-clause-room
+put_all-requires-in-loop-side-clause-room c =
+    let side = c.loop-side.side-counter - 1 in
+    chain_room c.loop-side.self (of_side side c.args.parts.now) (sifted _ (has_side side) c.args.parts.now c.copied-in-loop-side.ensures.source c.filter-in-loop-side.ensures.source (cc) c.filter-in-loop-side.ensures.closure (λ x b q k. search (rules, tests))) (reverse-filter (has_side side) c.args.parts.now) (rw c.loop-side.invariant.1 (simp length-append (omega (arith, simp length-append at (tier_room c.loop-side.side-counter c.args.parts.now c.loop-side-test.true c.loop-side.invariant.0 c.requires.within)))))
 
 pub loop-side-preserved : goal.loop-side-preserved
-loop-side-preserved c = (omega (arith, c.loop-side.invariant.0), tier_more c.loop-side.side c.args.parts.now (pile_of c.loop-side.self) (pile_of c.put_side.new.self) c.loop-side-test.true c.loop-side.invariant.0 c.loop-side.invariant.1 c.put_side.ensures.list, c.put_side.ensures.room ∙ c.loop-side.invariant.2)
+loop-side-preserved c =
+    let side = c.loop-side.side-counter - 1 in
+    (omega (arith, c.loop-side.invariant.0), chain_laid c.loop-side.self c.put_all-in-loop-side.new.self (of_side side c.args.parts.now) (sifted _ (has_side side) c.args.parts.now c.copied-in-loop-side.ensures.source c.filter-in-loop-side.ensures.source (cc) c.filter-in-loop-side.ensures.closure (λ x b q k. search (rules, tests))) (reverse-filter (has_side side) c.args.parts.now) c.put_all-in-loop-side.ensures ∙ ap (laid (of_side side c.args.parts.now)) c.loop-side.invariant.1 ∙ laid_twice _ _ c.args.self.now ∙ ap (λ t. laid t c.args.self.now) (tier_more c.loop-side.side-counter c.args.parts.now c.loop-side-test.true c.loop-side.invariant.0))
 
 pub returns : goal.returns
-returns c = record { list = tier_all c.loop-side.side c.args.parts.now (pile_of c.loop-side.self) (omega arith) c.requires.within c.loop-side.invariant.1; room = c.loop-side.invariant.2 ∙ c.put_rests.ensures.room }
+returns c = c.loop-side.invariant.1 ∙ ap (λ t. laid t c.args.self.now) (tier_all c.loop-side.side-counter c.args.parts.now (omega arith) c.requires.within)
