@@ -1,4 +1,4 @@
-ghost use Rattle.std.specs.Prelude.{◌≡◌, ◌≤◌};
+ghost use Rattle.std.specs.Prelude.{◌≡◌, ◌≤◌, Some};
 ghost use Rattle.speck.specs.Grid.{significant as significantPart};
 ghost use Rattle.speck.specs.Laws.{AboutGrid, InPlace};
 ghost use Rattle.walk.specs.Walks.{asks};
@@ -23,19 +23,14 @@ fn significant<G: Ground>(ground: &G, part: Part, plane: u8) -> bool
     }
 }
 
-// What a ground answers to a question about its grid; nothing where nothing is asked.
-pub(crate) fn answer<G: Ground>(ground: &G, question: Question) -> Option<bool>
-    requires { AboutGrid (G.headed ground.now).shape.exponent (G.headed ground.now).planes (asks question) }
-    ensures { result ≡ told (G.grid ground.now) (asks question) }
+// What a ground answers to a question about its grid.
+pub(crate) fn answer<G: Ground>(ground: &G, question: Question) -> bool
+    requires { AboutGrid (G.headed ground.now).shape.exponent (G.headed ground.now).planes (asks (Some question)) }
+    ensures { Some result ≡ told (G.grid ground.now) (asks (Some question)) }
 {
     match question {
-        Question::Significant { plane, part } => Some(significant(ground, part, plane)),
-        Question::Negative { row, column } => Some(ground.is_negative(row.into(), column.into())),
-        Question::Bit { plane, row, column } => Some(ground.has_bit(
-            row.into(),
-            column.into(),
-            plane,
-        )),
-        Question::Nothing => None,
+        Question::Significant { plane, part } => significant(ground, part, plane),
+        Question::Negative { row, column } => ground.is_negative(row.into(), column.into()),
+        Question::Bit { plane, row, column } => ground.has_bit(row.into(), column.into(), plane),
     }
 }

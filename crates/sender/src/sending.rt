@@ -36,9 +36,10 @@ pub fn send<G: Ground>(
     admit(slot, out)?;
     let mut walk = Walk::open(ground.head(), heap)?;
     for i in 0..slot {
-        let Some(answer) = answer(ground, walk.question()) else {
+        let Some(question) = walk.question() else {
             return Ok(i);
         };
+        let answer = answer(ground, question);
         walk.step(answer).unwrap();
         bits::put(out, i, answer).unwrap();
     }

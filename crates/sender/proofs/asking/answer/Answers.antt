@@ -10,5 +10,5 @@ returns-in-Bit g c =
     let h = g.G.Ground.headed c.args.ground.now in
     let d = g.G.Ground.grid c.args.ground.now in
     let b = c.in-Bit in
-    let a = subst (λ q. AboutGrid h.shape.exponent h.planes (asks q)) b.is c.requires in
-    ap Some ((rw (c.into-in-Bit.ensures, c.into-in-Bit-2.ensures) at c.has_bit.ensures) ∙ bit_told_is h.shape.exponent d b.row b.column b.plane a.1 (omega (arith, a.0, h.few))) ∙ sym (ap (λ q. told d (asks q)) b.is)
+    let a = subst (λ q. AboutGrid h.shape.exponent h.planes (asks (Some q))) b.is c.requires in
+    ap Some ((rw (c.into-in-Bit.ensures, c.into-in-Bit-2.ensures) at c.has_bit.ensures) ∙ bit_told_is h.shape.exponent d b.row b.column b.plane a.1 (omega (arith, a.0, h.few))) ∙ sym (ap (λ q. told d (asks (Some q))) b.is)
