@@ -1,5 +1,9 @@
-use Rattle.std.specs.Prelude.{◌≡◌, ℕ, ◌+◌, ◌*◌, ◌<◌, List, ℤ, pos, slice_index_or}
+use Rattle.std.specs.Prelude.{◌≡◌, ℕ, ◌+◌, ◌*◌, ◌<◌, ◌≤◌, List, ℤ, pos, slice_index_or, unsigned_abs}
 use Rattle.transform.specs.Transform.{Line, Grid, On}
+
+-- what can be halved, and undone, in 32 bits
+abbrev pub Small : ℤ → Type 0
+Small z = unsigned_abs z ≤ 1048576
 
 -- the numbers of a list from a place on, each so many places behind the one before
 abbrev pub line_at : List ℤ → ℕ → ℕ → Line

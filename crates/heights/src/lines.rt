@@ -1,8 +1,8 @@
 // One level of the transform in place, line by line: a row or a column is a line of numbers a fixed stride apart.
-ghost use Rattle.std.specs.Prelude.{◌≡◌, ℕ, ◌+◌, ◌*◌, ◌^◌, ◌<◌, ◌≤◌, ◌≢◌, length, pos, slice_index_or, unsigned_abs};
+ghost use Rattle.std.specs.Prelude.{◌≡◌, ℕ, ◌+◌, ◌*◌, ◌^◌, ◌<◌, ◌≤◌, ◌≢◌, length, pos, slice_index_or};
 ghost use Rattle.transform.specs.Transform.{On, grid_of, halved, in_rows, level as levelOf};
 ghost use Rattle.transform.specs.Planes.{BelowPlanes};
-ghost use Rattle.heights.specs.Lines.{Apart, Within, line_at, lines_of};
+ghost use Rattle.heights.specs.Lines.{Apart, Small, Within, line_at, lines_of};
 
 use crate::halving::halve;
 use head::Shape;
@@ -10,7 +10,7 @@ use head::Shape;
 // Halves the pairs of the line at `start`: lows to the front of `line`, differences behind them.
 fn halve_pairs(values: &[i32], start: usize, stride: usize, half: usize, line: &mut [i32])
     requires inside { (t : ℕ) → t < 2 * half → start + t * stride < length values.now }
-    requires small { (t : ℕ) → t < 2 * half → unsigned_abs (line_at values.now start stride t) ≤ 1048576 }
+    requires small { (t : ℕ) → t < 2 * half → Small (line_at values.now start stride t) }
     requires room { 2 * half ≤ length line.old }
     ensures { (t : ℕ) → t < 2 * half → slice_index_or line.new t (pos 0) ≡ halved half (line_at values.now start stride) t }
 {
@@ -52,7 +52,7 @@ fn halve_lines(
     requires across_small { across ≤ 64 }
     requires apart { Apart side across along }
     requires inside { Within side across along (length values.old) }
-    requires small { On side (λ i j. unsigned_abs (lines_of values.old across along i j) ≤ 1048576) }
+    requires small { On side (λ i j. Small (lines_of values.old across along i j)) }
     requires room { 64 ≤ length line.old }
     ensures { On side (λ i j. lines_of values.new across along i j ≡ in_rows (2 * half) (halved half) (lines_of values.old across along) i j) }
 {

@@ -13,12 +13,7 @@ use std::alloc::{AllocError, Global};
 fn settle(frame: &ClosedFrame, heap: Global) -> Result<Vec<i32>, AllocError>
     ensures { IfOk result (λ v. v.items ≡ map settled frame.now.cells.items) }
 {
-    let cells = frame.cells();
-    let mut heights = Vec::with_capacity(heap, cells.len())?;
-    for cell in cells {
-        heights.push(cell.unwrap_or(UNTOLD))?;
-    }
-    Ok(heights)
+    frame.cells().iter().map(|cell| cell.unwrap_or(UNTOLD)).collect(heap)
 }
 
 // Turns heights in row order into their coefficients, in place.

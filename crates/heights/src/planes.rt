@@ -18,11 +18,7 @@ impl Coefficients {
     fn top(&self) -> u32
         ensures { Top self.now.values.items result }
     {
-        let mut top = 0;
-        for value in self.values.iter() {
-            top = top.max(value.unsigned_abs());
-        }
-        top
+        self.values.iter().map(|value| value.unsigned_abs()).max().unwrap_or(0)
     }
 
     // The head of these coefficients, with the least number of planes that holds them all.
