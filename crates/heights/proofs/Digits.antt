@@ -16,23 +16,6 @@ digits n r h e =
     let b : 2 ^ r ≤ 2 * n + 1 = rw q at l.3 in
     (a, λ p c. elim (cases_lt p r) [ inr d ↦ d | inl d ↦ absurd (let m : 2 ^ suc p ≤ 2 ^ r = pow_mono d in omega arith) ])
 
--- t is the largest magnitude of the first n numbers
-pub record TopTo (xs : List ℤ) (n t : ℕ) : Type 0 where
-  pub bounds : (p : ℕ) → p < n → nat_abs (get_or xs p (pos 0)) ≤ t
-  pub least : (b : ℕ) → ((p : ℕ) → p < n → nat_abs (get_or xs p (pos 0)) ≤ b) → t ≤ b
-
-pub top_none : (xs : List ℤ) → TopTo xs 0 0
-top_none xs = record { bounds = λ p l. absurd (omega arith); least = λ b h. omega arith }
-
-pub top_more : (xs : List ℤ) (i t v : ℕ) → TopTo xs i t → v ≡ nat_abs (get_or xs i (pos 0)) → TopTo xs (i + 1) (max t v)
-top_more xs i t v inv e = record {
-  bounds = below_more _ _ (λ p l. let b = inv.bounds p l in omega arith) (omega arith);
-  least = λ b h. let x = inv.least b (λ p l. h p (omega arith)) in let y = h i (omega arith) in omega arith;
-}
-
-pub top_all : (xs : List ℤ) (n t : ℕ) → n ≡ length xs → TopTo xs n t → Top xs t
-top_all xs n t e inv = record { bounds = λ p l. inv.bounds p (omega arith); least = λ b h. inv.least b (λ p l. h p (omega arith)) }
-
 -- the digits of the largest magnitude are the planes of the grid
 pub planes_of_top : (m : ℕ) (xs : List ℤ) (t r : ℕ) → length xs ≡ 4 ^ m → Top xs t → t < 2 ^ r → ((p : ℕ) → t < 2 ^ p → r ≤ p) → PlaneCount m (grid_of m xs) r
 planes_of_top m xs t r e top a b = record {

@@ -2,5 +2,4 @@ pub mod Strides
 pub mod Turns
 pub mod Settling
 pub mod Walks
-pub mod Drawing
 pub mod Digits

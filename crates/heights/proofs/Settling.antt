@@ -13,10 +13,6 @@ use Rattle.transform.proofs.Levels.{comes_back, transform_local}
 use Rattle.transform.proofs.Planes.{fifteen_planes}
 use Rattle.transform.proofs.Errors.{undone_local}
 
--- one turn of a loop that pushes f of each element
-pub push_map : {X : Type 0} (f : X → ℤ) (xs : List X) (i : ℕ) (d : X) (before after : List ℤ) (v : ℤ) → SFits w32 v → i < length xs → before ≡ map f (take i xs) → v ≡ f (get_or xs i d) → after ≡ before ++ to_z w32 (of_z w32 v) ∷ [] → after ≡ map f (take (i + 1) xs)
-push_map f xs i d before after v fits h inv is pushed = let t = to_z-of_z w32 v fits in let m = map_more f xs i d h in cc
-
 -- the settled cells as a grid: the frame's heights, all of the span
 settled_grid : (m : ℕ) (cells : List (Option ℤ)) → length cells ≡ 4 ^ m → On (2 ^ m) (λ i j. grid_of m (map settled cells) i j ≡ heights_of m cells i j)
 settled_grid m cells e i j p q = get_or-map settled cells (i * 2 ^ m + j) None (pos 0) (omega (arith, place_in m i j p q))

@@ -14,9 +14,6 @@ pub record Paired (f : Line) (h n : ℕ) (line : List ℤ) : Type 0 where
   pub low : (t : ℕ) → t < n → get_or line t (pos 0) ≡ low_of (f (2 * t)) (f (2 * t + 1))
   pub difference : (t : ℕ) → t < n → get_or line (h + t) (pos 0) ≡ difference_of (f (2 * t)) (f (2 * t + 1))
 
-pub paired_none : (f : Line) (h : ℕ) (line : List ℤ) → Paired f h 0 line
-paired_none f h line = record { low = λ t l. absurd (omega arith); difference = λ t l. absurd (omega arith) }
-
 pub paired_more : (f : Line) (h n : ℕ) (line : List ℤ) (x y : ℤ) → n < h → 2 * h ≤ length line → Paired f h n line → SFits w32 x → SFits w32 y → x ≡ low_of (f (2 * n)) (f (2 * n + 1)) → y ≡ difference_of (f (2 * n)) (f (2 * n + 1)) →
     Paired f h (n + 1) (set (set line n (to_z w32 (of_z w32 x))) (h + n) (to_z w32 (of_z w32 y)))
 paired_more f h n line x y l room inv fx fy ex ey = record {
@@ -41,9 +38,6 @@ paired_all f h line inv t l = elim (cases_lt t h) [
 pub record Laid (line before : List ℤ) (start stride n : ℕ) (xs : List ℤ) : Type 0 where
   pub laid : (t : ℕ) → t < n → line_at xs start stride t ≡ get_or line t (pos 0)
   pub rest : (p : ℕ) → ((t : ℕ) → t < n → p ≢ start + t * stride) → get_or xs p (pos 0) ≡ get_or before p (pos 0)
-
-pub laid_none : (line xs : List ℤ) (start stride : ℕ) → Laid line xs start stride 0 xs
-laid_none line xs start stride = record { laid = λ t l. absurd (omega arith); rest = λ p h. refl }
 
 pub laid_more : (line before : List ℤ) (start stride n : ℕ) (xs : List ℤ) (x : ℤ) → 0 < stride → start + n * stride < length xs → Laid line before start stride n xs → SFits w32 x → x ≡ get_or line n (pos 0) →
     Laid line before start stride (n + 1) (set xs (start + n * stride) (to_z w32 (of_z w32 x)))
@@ -76,9 +70,6 @@ lines_more xs ys g s across along h n l le apart inv line rest i j p q = elim (c
       | inl k ↦ cond-true _ _ _ (lt-ltb i n k) ∙ sym (cond-true _ _ _ (lt-ltb i (n + 1) (omega arith)))
       | inr k ↦ cond-false _ _ _ (le-ltb i n k) ∙ sym (cond-false _ _ _ (le-ltb i (n + 1) (omega arith)))
     ]
-
-pub lines_none : (xs : List ℤ) (s across along h : ℕ) → On s (λ i j. lines_of xs across along i j ≡ in_rows 0 (halved h) (lines_of xs across along) i j)
-lines_none xs s across along h i j p q = sym (cond-false _ _ _ (le-ltb i 0 (omega arith)))
 
 -- rows and columns of 2^m rows of 2^m numbers
 pub rows_apart : (m : ℕ) → Apart (2 ^ m) (2 ^ m) 1

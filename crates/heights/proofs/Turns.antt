@@ -11,14 +11,6 @@ pub record Turned (m k : ℕ) (g : Grid) (t w : ℕ) (xs : List ℤ) : Type 0 wh
   pub planes : BelowPlanes m (grid_of m xs) 15
   pub to_come : On (2 ^ m) (λ i j. levels (k - t) w (grid_of m xs) i j ≡ levels k (2 ^ m) g i j)
 
-pub turned_none : (m k w : ℕ) (xs : List ℤ) → w ≡ 2 ^ m → On (2 ^ m) (λ i j. Span (grid_of m xs i j)) → Turned m k (grid_of m xs) 0 w xs
-turned_none m k w xs e span = record {
-  within = omega arith;
-  heights = λ i j p q. span i j (omega arith) (omega arith);
-  planes = λ i j p q. span_small (grid_of m xs i j) (span i j p q);
-  to_come = λ i j p q. let z : k - 0 ≡ k = omega arith in rw (z, e);
-}
-
 one_more : (r k t w : ℕ) (g : Grid) → r ≡ k - t → t < k → levels r w g ≡ levels (k - (t + 1)) (w / 2) (level (w / 2) g)
 one_more zero k t w g e l = absurd (omega arith)
 one_more (suc r) k t w g e l = let f : r ≡ k - (t + 1) = omega arith in ap (λ n. levels n (w / 2) (level (w / 2) g)) f

@@ -10,15 +10,6 @@ use Rattle.transform.specs.Planes.{BelowPlanes}
 use Rattle.transform.proofs.Cells.{cell, half_abs}
 use Rattle.heights.specs.Reading.{reading_at, block_of}
 
--- the two of a pair that the code may pick
-pub picked_first : (j : ℕ) (l d r : ℤ) → r ≡ first_of l d → j % 2 ≡ 0 → record { value : r ≡ one_of j l d; small : nat_abs r ≤ nat_abs l + (nat_abs d + 1) / 2 }
-unfolding one_of
-picked_first j l d r e z = record { value = e ∙ sym (cond-true _ _ _ (eq-eqb (j % 2) 0 z)); small = let b = half_abs d _ refl in rw e (omega (arith, ints)) }
-
-pub picked_second : (j : ℕ) (l d r : ℤ) → r ≡ second_of l d → (j % 2 ≡ 0 → ⊥) → record { value : r ≡ one_of j l d; small : nat_abs r ≤ nat_abs l + (nat_abs d + 1) / 2 }
-unfolding one_of
-picked_second j l d r e z = record { value = e ∙ sym (cond-false _ _ _ (ne_eqb (j % 2) 0 z)); small = let b = half_abs d _ refl in rw e (omega (arith, ints)) }
-
 -- a coefficient that was read
 pub read_in : (m : ℕ) (g : Grid) (i j : ℕ) → i < 2 ^ m → j < 2 ^ m → reading_at m g i j ≡ g i j
 read_in m g i j p q = let e : inside m i j ≡ true = rw (lt-ltb i (2 ^ m) p) (lt-ltb j (2 ^ m) q) in cond-true (inside m i j) (g i j) (pos 0) e
@@ -40,9 +31,6 @@ cast_abs z h = ap nat_abs (to_z-of_z w32 z (record { sfits = h }))
 pub record Walked (m k row column : ℕ) (g : Grid) (t : ℕ) (v : ℤ) : Type 0 where
   pub here : v ≡ unlevels (k - t) (2 ^ (m - t)) g (row / 2 ^ t) (column / 2 ^ t)
   pub bound : nat_abs v ≤ 32767 + (k - t) * 40960
-
-pub walked_none : (m k row column : ℕ) (g : Grid) (v : ℤ) → (v ≡ g (row / 2 ^ k) (column / 2 ^ k)) × (nat_abs v ≤ 32767) → Walked m k row column g k v
-walked_none m k row column g v e = record { here = e.0 ∙ ap (λ n. unlevels n (2 ^ (m - k)) g (row / 2 ^ k) (column / 2 ^ k)) (let z : 0 ≡ k - k = omega arith in z); bound = omega arith }
 
 -- the cell's square of side 2^(m - u), and half that side
 pub square_in : (m u x : ℕ) → u ≤ m → x < 2 ^ m → x / 2 ^ u < 2 ^ (m - u)

@@ -105,13 +105,10 @@ pub fn map<G: CoefficientGrid>(grid: &G, out: &mut [i32]) -> Result<(), ReadFaul
     ensures heights { (p : ℕ) → slice_index_or out.new p (pos 0) ≡ drawn (G.shaped grid.now).exponent (undone (G.shaped grid.now).exponent (G.shaped grid.now).levels (G.coefs grid.now)) out.old p }
 {
     let shape = grid.shape();
-    let area = shape.area();
-    if out.len() < area {
-        return Err(ReadFault::Buffer);
-    }
     let side = shape.side();
-    for p in 0..area {
-        out[p] = undone_at(grid, p / side, p % side);
+    let (heights, _) = out.split_at_mut_checked(shape.area()).ok_or(ReadFault::Buffer)?;
+    for (p, height) in heights.iter_mut().enumerate() {
+        *height = undone_at(grid, p / side, p % side);
     }
     Ok(())
 }

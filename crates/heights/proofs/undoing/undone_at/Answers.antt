@@ -1,7 +1,6 @@
-use Rattle.std.proofs.Common.{◌≡◌, ℕ, ◌+◌, ◌-◌, ◌*◌, ◌/◌, ◌^◌, ◌≤◌, ap, ◌∙◌, arith, pow_mono, w32, SFits, rules}
+use Rattle.std.proofs.Common.{arith, w32, SFits, rules}
 use Rattle.std.proofs.lemmas.Int.{to_z-of_z}
-use Rattle.std.proofs.lemmas.Nat.{shr_le}
-use Rattle.heights.proofs.Walks.{walked_none, walked_more, walked_all, square_in, half_side}
+use Rattle.heights.proofs.Walks.{walked_more, walked_all, square_in, half_side}
 use Rattle.heights.proofs.undoing.undone_at.Goals as goal
 
 pub finer-height-requires-clause-row_in : goal.finer-height-requires-clause-row_in
