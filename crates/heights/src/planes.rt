@@ -10,7 +10,7 @@ fn bit_length(n: u32) -> u8
     ensures enough { n < 2 ^ result }
     ensures least { (p : ℕ) → n < 2 ^ p → result ≤ p }
 {
-    (32 - n.leading_zeros()) as u8
+    (u32::BITS - n.leading_zeros()) as u8
 }
 
 impl Coefficients {
