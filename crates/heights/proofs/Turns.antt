@@ -1,5 +1,5 @@
-use Rattle.std.proofs.Common.{◌≡◌, ℕ, zero, suc, ◌+◌, ◌*◌, ◌/◌, ◌^◌, ◌<◌, ◌≤◌, List, ℤ, add-one, sym, refl, ap, ◌∙◌, arith}
-use Rattle.std.proofs.lemmas.Nat.{shr_le, shr-shr}
+use Rattle.std.proofs.Common.{◌≡◌, ℕ, zero, suc, ◌+◌, ◌-◌, ◌*◌, ◌/◌, ◌%◌, ◌^◌, ◌<◌, ◌≤◌, List, ℤ, add-one, sym, refl, ap, ◌∙◌, arith}
+use Rattle.std.proofs.lemmas.Nat.{pow-add, shl-shr, shr_le, shr-shr}
 use Rattle.transform.specs.Transform.{Grid, On, grid_of, level, levels, transform}
 use Rattle.transform.specs.Planes.{Span, BelowPlanes}
 use Rattle.transform.proofs.Planes.{fifteen_planes}
@@ -12,12 +12,21 @@ last_level (suc k) w g =
     let n : suc (suc k) ≡ 1 + suc k = omega arith in
     ap (λ h. level h (levels (suc k) w g)) (ap (λ x. w / 2 ^ x) n ∙ sym (shr-shr w 1 (suc k))) ∙ last_level k (w / 2) (level (w / 2) g)
 
+-- the side of the square that level t works on
+pub side_even : (m t : ℕ) → t < m → 2 ^ m / 2 ^ t % 2 ≡ 0
+side_even m t l =
+    let n : ℕ = m - t - 1 in
+    let e : m ≡ n + 1 + t = omega arith in
+    let f : 2 ^ m / 2 ^ t ≡ 2 ^ (n + 1) = ap (λ x. 2 ^ x / 2 ^ t) e ∙ ap (λ x. x / 2 ^ t) (pow-add 2 (n + 1) t) ∙ shl-shr (2 ^ (n + 1)) t in
+    let d = pow-add 2 n 1 in
+    rw f (omega arith)
+
 -- one more level of a list that t levels of g have made
-pub level_more : (m t : ℕ) (g : Grid) (xs ys : List ℤ) → On (2 ^ m) (λ i j. grid_of m xs i j ≡ transform m t g i j) →
-    On (2 ^ m) (λ i j. grid_of m ys i j ≡ level (2 ^ m / 2 ^ (t + 1)) (grid_of m xs) i j) → On (2 ^ m) (λ i j. grid_of m ys i j ≡ transform m (t + 1) g i j)
+pub level_more : (m t w : ℕ) (g : Grid) (xs ys : List ℤ) → w ≡ 2 ^ m / 2 ^ t → On (2 ^ m) (λ i j. grid_of m xs i j ≡ transform m t g i j) →
+    On (2 ^ m) (λ i j. grid_of m ys i j ≡ level (w / 2) (grid_of m xs) i j) → On (2 ^ m) (λ i j. grid_of m ys i j ≡ transform m (t + 1) g i j)
 unfolding transform
-level_more m t g xs ys so_far same i j p q =
-    let h : 2 ^ m / 2 ^ t / 2 ≡ 2 ^ m / 2 ^ (t + 1) = shr-shr (2 ^ m) t 1 in
+level_more m t w g xs ys side so_far same i j p q =
     let le = shr_le (2 ^ m) t in
+    let h : w / 2 ≡ 2 ^ m / 2 ^ (t + 1) = ap (λ x. x / 2) side ∙ shr-shr (2 ^ m) t 1 in
     let e : level (2 ^ m / 2 ^ (t + 1)) (levels t (2 ^ m) g) ≡ levels (t + 1) (2 ^ m) g = rw add-one (last_level t (2 ^ m) g) in
-    same i j p q ∙ level_local (2 ^ m / 2 ^ (t + 1)) (2 ^ m) _ _ (omega arith) so_far i j p q ∙ ap (λ u. u i j) e
+    same i j p q ∙ level_local (w / 2) (2 ^ m) _ _ (omega arith) so_far i j p q ∙ ap (λ x. level x (levels t (2 ^ m) g) i j) h ∙ ap (λ u. u i j) e

@@ -24,7 +24,7 @@ fn transform(values: &mut [i32], shape: Shape)
 {
     let mut line = [0i32; 64];
     for t in 0..shape.levels() {
-        level(values, shape, shape.side() >> (t + 1), &mut line);
+        level(values, shape, &mut line[..shape.side() >> t]);
     }
 }
 
