@@ -12,6 +12,10 @@ use Rattle.transform.proofs.Planes.{rows_small}
 use Rattle.transform.proofs.Halving.{halved_low, halved_difference, halved_rest, halved_local}
 use Rattle.heights.specs.Lines.{Apart, Small, Within, lines_of, strided}
 
+-- two places of a line
+ne : (stride i j : ℕ) → 0 < stride → i < j → i * stride ≢ j * stride
+ne stride i j some p e = let d : i * stride < j * stride = mul-lt-mul_of_pos_right p some in omega arith
+
 -- one of a pair of a list cut into pairs
 pair_in : (xs : List ℤ) (k t j n : ℕ) → t < k → j < 2 → n ≡ 2 * t + j → get_or (get_or (first_chunks 2 k xs) t []) j (pos 0) ≡ get_or xs n (pos 0)
 pair_in xs zero t j n p q e = absurd (omega arith)
@@ -35,24 +39,24 @@ pub paired_more : (before : List ℤ) (stride h n : ℕ) (xs : List ℤ) (x y : 
     Paired before stride h (n + 1) (set (set xs (n * stride) (to_z w32 (of_z w32 x))) ((h + n) * stride) (to_z w32 (of_z w32 y)))
 paired_more before stride h n xs x y inv some l inside fx fy ex ey = record {
   low = below_more _ _
-      (λ k p. let a : k * stride ≢ n * stride = ne k n p in let b : k * stride ≢ (h + n) * stride = ne k (h + n) (omega arith) in rw (get_or-set_other, get_or-set_other) (inv.low k p))
-      (let b : n * stride ≢ (h + n) * stride = ne n (h + n) (omega arith) in let r = inside n (omega arith) in rw (get_or-set_other, get_or-set_same) (to_z-of_z w32 x fx ∙ ex));
+      (λ k p. let a : k * stride ≢ n * stride = ne stride k n some p in let b : k * stride ≢ (h + n) * stride = ne stride k (h + n) some (omega arith) in rw (get_or-set_other, get_or-set_other) (inv.low k p))
+      (let b : n * stride ≢ (h + n) * stride = ne stride n (h + n) some (omega arith) in let r = inside n (omega arith) in rw (get_or-set_other, get_or-set_same) (to_z-of_z w32 x fx ∙ ex));
   difference = below_more _ _
-      (λ k p. let a : (h + k) * stride ≢ n * stride = λ e. ne n (h + k) (omega arith) (sym e) in let b : (h + k) * stride ≢ (h + n) * stride = ne (h + k) (h + n) (omega arith) in rw (get_or-set_other, get_or-set_other) (inv.difference k p))
+      (λ k p. let a : (h + k) * stride ≢ n * stride = λ e. ne stride n (h + k) some (omega arith) (sym e) in let b : (h + k) * stride ≢ (h + n) * stride = ne stride (h + k) (h + n) some (omega arith) in rw (get_or-set_other, get_or-set_other) (inv.difference k p))
       (let r : (h + n) * stride < length (set xs (n * stride) (to_z w32 (of_z w32 x))) = simp length-set (inside (h + n) (omega arith)) in rw get_or-set_same (to_z-of_z w32 y fy ∙ ey));
   rest = λ p out. let a : p ≢ n * stride = out n (omega arith) in let b : p ≢ (h + n) * stride = out (h + n) (omega arith) in rw (get_or-set_other, get_or-set_other) (inv.rest p out);
 }
-  where
-    ne : (i j : ℕ) → i < j → i * stride ≢ j * stride
-    ne i j p e = let d : i * stride < j * stride = mul-lt-mul_of_pos_right p some in omega arith
 
-pub paired_all : (before : List ℤ) (stride h n : ℕ) (xs : List ℤ) → Paired before stride n n xs → n ≡ h → (t : ℕ) → t < 2 * h → strided xs stride t ≡ halved h (strided before stride) t
-paired_all before stride h n xs all e t l = let inv = rw e at all in elim (cases_lt t h) [
+pub paired_all : (before : List ℤ) (stride h n w : ℕ) (xs : List ℤ) → Paired before stride n n xs → n ≡ h → 0 < stride → h ≡ w / 2 → (t : ℕ) → t < w → strided xs stride t ≡ halved h (strided before stride) t
+paired_all before stride h n w xs all e some half t l = let inv = rw e at all in elim (cases_lt t h) [
   | inl p ↦ inv.low t p ∙ sym (halved_low h (strided before stride) t p)
-  | inr p ↦
-      let e : h + (t - h) ≡ t = omega arith in
-      let k : t - h < h = omega arith in
-      ap (strided xs stride) (sym e) ∙ inv.difference (t - h) k ∙ sym (halved_difference h (strided before stride) (t - h) k) ∙ ap (halved h (strided before stride)) e
+  | inr p ↦ elim (cases_lt t (2 * h)) [
+    | inl q ↦
+        let e : h + (t - h) ≡ t = omega arith in
+        let k : t - h < h = omega arith in
+        ap (strided xs stride) (sym e) ∙ inv.difference (t - h) k ∙ sym (halved_difference h (strided before stride) (t - h) k) ∙ ap (halved h (strided before stride)) e
+    | inr q ↦ inv.rest (t * stride) (λ k r same. ne stride k t some (omega arith) (sym same)) ∙ sym (halved_rest h (strided before stride) t q)
+  ]
 ]
 
 -- what stands in a list when its tail from a on has become zs, and in that tail before
@@ -66,12 +70,12 @@ was : (xs : List ℤ) (a q : ℕ) → get_or (take (length xs - a) (drop a xs)) 
 was xs a q = rw take_rest (get_or-drop a xs q (pos 0))
 
 -- Lines of a square, the first n of them halved as far as w.
-pub lines_more : (xs zs : List ℤ) (g : Grid) (s across along w n : ℕ) → w % 2 ≡ 0 → n < w → w ≤ s → s * s ≤ length xs → Apart s across along → Within s across along (s * s) → length zs ≡ length xs - n * across →
+pub lines_more : (xs zs : List ℤ) (g : Grid) (s across along w n : ℕ) → n < w → w ≤ s → s * s ≤ length xs → Apart s across along → Within s across along (s * s) → length zs ≡ length xs - n * across →
     On s (λ i j. lines_of xs across along i j ≡ in_rows n (halved (w / 2)) g i j) →
     ((t : ℕ) → t < w → strided zs along t ≡ halved (w / 2) (strided (take (length xs - n * across) (drop (n * across) xs)) along) t) →
     ((p : ℕ) → ((t : ℕ) → t < w → p ≢ t * along) → get_or zs p (pos 0) ≡ get_or (take (length xs - n * across) (drop (n * across) xs)) p (pos 0)) →
     On s (λ i j. lines_of (put_mid (n * across) (length xs - n * across) xs zs) across along i j ≡ in_rows (n + 1) (halved (w / 2)) g i j)
-lines_more xs zs g s across along w n even l le room apart within long inv line rest i j p q =
+lines_more xs zs g s across along w n l le room apart within long inv line rest i j p q =
     let a : ℕ = n * across in
     let f : ℕ → ℤ = strided (take (length xs - a) (drop a xs)) along in
     let first : a < length xs = let b = within n j (omega arith) q in omega arith in

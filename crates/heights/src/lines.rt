@@ -7,9 +7,8 @@ ghost use Rattle.heights.specs.Lines.{Apart, Small, Within, lines_of, strided};
 use crate::halving::halve;
 use head::Shape;
 
-// Halves the pairs of a line that begins at the front of `values` and is as long as the buffer: lows first, differences behind them.
+// Halves the pairs of the line that begins at the front of `values`, as far as the buffer is long: lows first, differences behind them.
 fn halve_line(values: &mut [i32], stride: usize, line: &mut [i32])
-    requires pairs { length line.old % 2 ≡ 0 }
     requires some { 0 < stride }
     requires inside { (t : ℕ) → t < length line.old → t * stride < length values.old }
     requires small { (t : ℕ) → t < length line.old → Small (strided values.old stride t) }
@@ -40,13 +39,12 @@ struct Lines {
 }
 
 impl Lines {
-    // Halves the first lines in place, as many as the buffer is long, and as far as that.
-    fn halve(&self, values: &mut [i32], line: &mut [i32])
-        requires pairs { length line.old % 2 ≡ 0 }
-        requires inner { length line.old ≤ self.now.side }
-        requires whole { self.now.side * self.now.side ≤ length values.old }
-        requires small { On self.now.side (λ i j. Small (lines_of values.old self.now.across self.now.along i j)) }
-        ensures { On self.now.side (λ i j. lines_of values.new self.now.across self.now.along i j ≡ in_rows (length line.old) (halved (length line.old / 2)) (lines_of values.old self.now.across self.now.along) i j) }
+    // Halves the first lines in place: as many of them, and as far, as the buffer is long.
+    fn halve(self, values: &mut [i32], line: &mut [i32])
+        requires inner { length line.old ≤ self.side }
+        requires whole { self.side * self.side ≤ length values.old }
+        requires small { On self.side (λ i j. Small (lines_of values.old self.across self.along i j)) }
+        ensures { On self.side (λ i j. lines_of values.new self.across self.along i j ≡ in_rows (length line.old) (halved (length line.old / 2)) (lines_of values.old self.across self.along) i j) }
     {
         for i in 0..line.len() {
             halve_line(&mut values[i * self.across..], self.along, line);

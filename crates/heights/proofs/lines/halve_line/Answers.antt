@@ -1,4 +1,4 @@
-use Rattle.std.proofs.Common.{◌≡◌, ◌+◌, ◌*◌, ◌/◌, List, [], length, get_or, ℤ, pos, arith, w32, SFits, rules}
+use Rattle.std.proofs.Common.{◌≡◌, ◌+◌, ◌*◌, ◌/◌, List, [], length, get_or, ℤ, pos, refl, arith, w32, SFits, rules}
 use Rattle.std.proofs.lemmas.Int.{to_z-of_z}
 use Rattle.heights.specs.Lines.{strided}
 use Rattle.heights.proofs.Strides.{pair_of, paired_more, paired_all}
@@ -25,4 +25,4 @@ loop-p-preserved c =
 pub returns-clause-line : goal.returns-clause-line
 returns-clause-line c =
     let e : c.loop-p.p ≡ length c.as_chunks.result.0.now = omega arith in
-    λ t l. paired_all _ _ (length c.args.line.now / 2) _ _ (rw e at c.loop-p.invariant) (omega arith) t (omega arith)
+    λ t l. paired_all _ _ (length c.args.line.now / 2) _ (length c.args.line.now) _ (rw e at c.loop-p.invariant) (omega arith) c.requires.some refl t l
