@@ -1,4 +1,4 @@
-use Rattle.std.proofs.Common.{◌≡◌, ℕ, zero, suc, ◌+◌, ◌-◌, ◌*◌, ◌/◌, ◌%◌, ◌^◌, ◌<◌, ◌≤◌, Bool, true, false, cond, ltb, ◌≢◌, List, [], length, get_or, take, drop, set, ℤ, pos, nat_abs, sym, refl, ap, ◌∙◌, inl, inr, mul-lt-mul_of_pos_right, mul-one, arith, length-set, get_or-set_other, get_or-set_same, w32, SFits, to_z, of_z, below_more, ◌⊎◌, rules}
+use Rattle.std.proofs.Common.{◌≡◌, ℕ, zero, suc, ◌+◌, ◌-◌, ◌*◌, ◌/◌, ◌%◌, ◌^◌, ◌<◌, ◌≤◌, Bool, true, false, cond, ltb, ◌≢◌, List, [], length, get_or, take, drop, set, ℤ, pos, sym, refl, ap, ◌∙◌, inl, inr, mul-lt-mul_of_pos_right, mul-one, arith, length-set, get_or-set_other, get_or-set_same, w32, SFits, to_z, of_z, below_more, ◌⊎◌, rules}
 use mathlib.Core.Path.{fun_ext}
 use Rattle.std.proofs.lemmas.Int.{to_z-of_z}
 use Rattle.std.proofs.lemmas.Bool.{lt-ltb, le-ltb, cases_lt, cases_eq, cond-true, cond-false}
@@ -6,7 +6,7 @@ use Rattle.std.proofs.lemmas.Nat.{mul-add-lt, div-mul-add, mod-mul-add}
 use Rattle.std.proofs.lemmas.List.{get_or-take, get_or-drop, take_rest, places}
 use borrow.Rule.Slice.PartMut.{put_mid}
 use Rattle.std.specs.Simd.{first_chunks}
-use Rattle.transform.specs.Transform.{Line, Grid, On, grid_of, low_of, difference_of, halved, in_rows, in_columns, level}
+use Rattle.transform.specs.Transform.{Grid, On, grid_of, low_of, difference_of, halved, in_rows, in_columns, level}
 use Rattle.transform.specs.Planes.{BelowPlanes}
 use Rattle.transform.proofs.Planes.{rows_small}
 use Rattle.transform.proofs.Halving.{halved_low, halved_difference, halved_rest, halved_local}

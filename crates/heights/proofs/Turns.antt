@@ -1,8 +1,6 @@
-use Rattle.std.proofs.Common.{◌≡◌, ℕ, zero, suc, ◌+◌, ◌-◌, ◌*◌, ◌/◌, ◌%◌, ◌^◌, ◌<◌, ◌≤◌, List, ℤ, add-one, sym, refl, ap, ◌∙◌, arith}
+use Rattle.std.proofs.Common.{◌≡◌, ℕ, zero, suc, ◌+◌, ◌-◌, ◌/◌, ◌%◌, ◌^◌, ◌<◌, List, ℤ, add-one, sym, refl, ap, ◌∙◌, arith}
 use Rattle.std.proofs.lemmas.Nat.{pow-add, shl-shr, shr_le, shr-shr}
 use Rattle.transform.specs.Transform.{Grid, On, grid_of, level, levels, transform}
-use Rattle.transform.specs.Planes.{Span, BelowPlanes}
-use Rattle.transform.proofs.Planes.{fifteen_planes}
 use Rattle.transform.proofs.Levels.{level_local}
 
 -- the last of k + 1 levels

@@ -1,13 +1,12 @@
-use Rattle.std.proofs.Common.{◌≡◌, ℕ, suc, ◌+◌, ◌-◌, ◌*◌, ◌/◌, ◌%◌, ◌^◌, ◌<◌, ◌≤◌, true, ℤ, pos, nat_abs, sym, refl, ap, ◌∙◌, inl, inr, pow-suc, arith, w32, to_z, of_z}
-use borrow.Author.Differences.{ints}
+use Rattle.std.proofs.Common.{◌≡◌, ℕ, suc, ◌+◌, ◌-◌, ◌*◌, ◌/◌, ◌^◌, ◌<◌, ◌≤◌, true, ℤ, pos, nat_abs, sym, refl, ap, ◌∙◌, inl, inr, pow-suc, arith, w32, to_z, of_z}
 use lib.Signed.{mag}
 use Rattle.std.proofs.lemmas.Int.{to_z-of_z}
 use Rattle.std.proofs.lemmas.Nat.{pow-add, shl-shr, shr-shr, shr_below}
-use Rattle.std.proofs.lemmas.Bool.{cases_lt, lt-ltb, le-ltb, eq-eqb, ne_eqb, cond-true, cond-false}
+use Rattle.std.proofs.lemmas.Bool.{cases_lt, lt-ltb, le-ltb, cond-true}
 use Rattle.head.specs.Heads.{inside}
-use Rattle.transform.specs.Transform.{Grid, first_of, second_of, one_of, unlevels, undone}
+use Rattle.transform.specs.Transform.{Grid, unlevels, undone}
 use Rattle.transform.specs.Planes.{BelowPlanes}
-use Rattle.transform.proofs.Cells.{cell, half_abs}
+use Rattle.transform.proofs.Cells.{cell}
 use Rattle.heights.specs.Reading.{reading_at, block_of}
 
 -- a coefficient that was read

@@ -1,4 +1,4 @@
-use Rattle.std.specs.Prelude.{◌≡◌, ℕ, ◌+◌, ◌/◌, ◌%◌, ◌^◌, cond, ◌&&◌, List, length, ℤ, pos, nat_le, nat_lt, slice_index_or}
+use Rattle.std.specs.Prelude.{ℕ, ◌+◌, ◌/◌, ◌%◌, ◌^◌, cond, ◌&&◌, List, length, ℤ, pos, nat_le, nat_lt, slice_index_or}
 use Rattle.head.specs.Heads.{inside}
 use Rattle.head.specs.declared.refusals.Refusal.{Refusal}
 use Rattle.head.specs.declared.refusals.Refusal.TheVariants as refusal

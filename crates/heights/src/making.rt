@@ -13,7 +13,11 @@ use std::alloc::{AllocError, Global};
 fn settle(frame: &ClosedFrame, heap: Global) -> Result<Vec<i32>, AllocError>
     ensures { IfOk result (λ v. v.items ≡ map settled frame.now.cells.items) }
 {
-    frame.cells().iter().map(|cell| cell.unwrap_or(UNTOLD)).collect(heap)
+    frame
+        .cells()
+        .iter()
+        .map(|cell| cell.unwrap_or(UNTOLD))
+        .collect(heap)
 }
 
 // Turns heights in row order into their coefficients, in place.

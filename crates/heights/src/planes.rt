@@ -18,7 +18,11 @@ impl Coefficients {
     fn top(&self) -> u32
         ensures { Top self.now.values.items result }
     {
-        self.values.iter().map(|value| value.unsigned_abs()).max().unwrap_or(0)
+        self.values
+            .iter()
+            .map(|value| value.unsigned_abs())
+            .max()
+            .unwrap_or(0)
     }
 
     // The head of these coefficients, with the least number of planes that holds them all.

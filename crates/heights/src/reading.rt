@@ -17,7 +17,9 @@ impl CoefficientGrid for Coefficients {
     }
 
     fn coefficient(&self, row: usize, column: usize) -> i32 {
-        self.shape.place(row, column).map_or(0, |place| self.values[place])
+        self.shape
+            .place(row, column)
+            .map_or(0, |place| self.values[place])
     }
 }
 

@@ -106,7 +106,9 @@ pub fn map<G: CoefficientGrid>(grid: &G, out: &mut [i32]) -> Result<(), ReadFaul
 {
     let shape = grid.shape();
     let side = shape.side();
-    let (heights, _) = out.split_at_mut_checked(shape.area()).ok_or(ReadFault::Buffer)?;
+    let (heights, _) = out
+        .split_at_mut_checked(shape.area())
+        .ok_or(ReadFault::Buffer)?;
     for (p, height) in heights.iter_mut().enumerate() {
         *height = undone_at(grid, p / side, p % side);
     }

@@ -1,4 +1,4 @@
-use Rattle.std.proofs.Common.{◌≡◌, length, vec_items, sym, refl, ap, ◌∙◌, arith}
+use Rattle.std.proofs.Common.{vec_items, sym, ◌∙◌, arith}
 use Rattle.std.proofs.lemmas.List.{with_items_is}
 use Rattle.heights.proofs.Settling.{Settled, heights_span, coefficients_small, coefficients_defined, coefficients_back}
 use Rattle.heights.proofs.Coefficients.of.Goals as goal

@@ -1,4 +1,4 @@
-use Rattle.std.proofs.Common.{◌≡◌, ℕ, ◌*◌, ◌<◌, get_or, length, pos}
+use Rattle.std.proofs.Common.{◌≡◌, ℕ, ◌<◌, get_or, length, pos}
 use Rattle.heights.specs.Lines.{strided}
 use Rattle.heights.proofs.Strides.{Paired}
 use Rattle.heights.proofs.lines.halve_line.Given as goal

@@ -1,4 +1,4 @@
-use Rattle.std.proofs.Common.{◌*◌, ◌^◌, ◌≤◌, length, arith}
+use Rattle.std.proofs.Common.{arith}
 use Rattle.head.proofs.Squares.{area}
 use Rattle.heights.proofs.Strides.{rows_apart, columns_apart, rows_within, columns_within, columns_fit, level_made}
 use Rattle.heights.proofs.lines.level.Goals as goal

@@ -1,4 +1,4 @@
-use Rattle.std.proofs.Common.{◌≡◌, ◌/◌, ◌^◌, ◌<◌, length, take, refl, arith, rules}
+use Rattle.std.proofs.Common.{◌/◌, ◌^◌, length, take, refl, arith}
 use Rattle.std.proofs.lemmas.Grind.{common_steps}
 use Rattle.std.proofs.lemmas.Nat.{shr_le}
 use Rattle.transform.specs.Transform.{transform}

@@ -1,4 +1,4 @@
-use Rattle.std.proofs.Common.{◌≡◌, ◌+◌, ◌*◌, ◌/◌, length, arith, rules}
+use Rattle.std.proofs.Common.{length, arith}
 use Rattle.heights.specs.Lines.{lines_of}
 use Rattle.heights.proofs.Strides.{lines_more}
 use Rattle.heights.proofs.lines.Lines.halve.Goals as goal
