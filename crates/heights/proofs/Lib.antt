@@ -1,4 +1,5 @@
 pub mod Strides
+pub mod Sides
 pub mod Turns
 pub mod Settling
 pub mod Walks

@@ -2,6 +2,7 @@ use Rattle.std.proofs.Common.{◌≡◌, ℕ, zero, suc, ◌+◌, ◌-◌, ◌*�
 use mathlib.Core.Path.{fun_ext}
 use Rattle.std.proofs.lemmas.Int.{to_z-of_z}
 use Rattle.std.proofs.lemmas.Bool.{lt-ltb, le-ltb, cases_lt, cases_eq, cond-true, cond-false}
+use Rattle.std.proofs.lemmas.Bool.Decides.{nat_tests}
 use Rattle.std.proofs.lemmas.Nat.{mul-add-lt, div-mul-add, mod-mul-add}
 use Rattle.std.proofs.lemmas.List.{get_or-take, get_or-drop, take_rest, places}
 use borrow.Rule.Slice.PartMut.{put_mid}
@@ -78,16 +79,16 @@ pub lines_more : (xs zs : List ℤ) (g : Grid) (s across along w n : ℕ) → n 
 lines_more xs zs g s across along w n l le room apart within long inv line rest i j p q =
     let a : ℕ = n * across in
     let f : ℕ → ℤ = strided (take (length xs - a) (drop a xs)) along in
-    let first : a < length xs = let b = within n j (omega arith) q in omega arith in
+    let b = within n j (omega arith) q in
     elim (cases_eq i n) [
       | inl e ↦
-          let b = within n j (omega arith) q in
           let now : (u : ℕ) → u < s → f u ≡ g n u = λ u k. was xs a (u * along) ∙ inv n u (omega arith) k ∙ cond-false _ _ _ (le-ltb n n (omega arith)) in
           let here : get_or zs (j * along) (pos 0) ≡ halved (w / 2) (g n) j = elim (cases_lt j w) [
             | inl k ↦ line j k ∙ halved_local (w / 2) s f (g n) (omega arith) now j q
             | inr k ↦ rest (j * along) (λ t v r. absurd (let b = (apart n j n t (omega arith) q (omega arith) (omega arith) (ap (λ x. a + x) r)).1 in omega arith)) ∙ now j q ∙ sym (halved_rest (w / 2) (g n) j (omega arith))
           ] in
-          ap (λ u. lines_of (put_mid a (length xs - a) xs zs) across along u j) e ∙ put xs zs a (j * along) (omega arith) (omega arith) ∙ here ∙ sym (cond-true _ _ _ (lt-ltb n (n + 1) (omega arith))) ∙ ap (λ u. in_rows (n + 1) (halved (w / 2)) g u j) (sym e)
+          let made = put xs zs a (j * along) (omega arith) (omega arith) ∙ here in
+          grind (arith, nat_tests)
       | inr e ↦ other e (cases_lt (i * across + j * along) a) ∙ inv i j p q ∙ same_side e
     ]
   where
@@ -102,10 +103,7 @@ lines_more xs zs g s across along w n l le room apart within long inv line rest 
         ap (λ x. get_or (put_mid a (length xs - a) xs zs) x (pos 0)) (sym at) ∙ put xs zs a r (omega arith) (omega arith) ∙ rest r (λ t v y. absurd (e (apart i j n t p q (omega arith) (omega arith) (omega arith)).0)) ∙ was xs a r ∙ ap (λ x. get_or xs x (pos 0)) at
 
     same_side : i ≢ n → in_rows n (halved (w / 2)) g i j ≡ in_rows (n + 1) (halved (w / 2)) g i j
-    same_side e = elim (cases_lt i n) [
-      | inl k ↦ cond-true _ _ _ (lt-ltb i n k) ∙ sym (cond-true _ _ _ (lt-ltb i (n + 1) (omega arith)))
-      | inr k ↦ cond-false _ _ _ (le-ltb i n k) ∙ sym (cond-false _ _ _ (le-ltb i (n + 1) (omega arith)))
-    ]
+    same_side e = grind (arith, nat_tests)
 
 -- rows and columns of s rows of s numbers
 pub rows_apart : (s : ℕ) → Apart s s 1

@@ -10,15 +10,6 @@ last_level (suc k) w g =
     let n : suc (suc k) ≡ 1 + suc k = omega arith in
     ap (λ h. level h (levels (suc k) w g)) (ap (λ x. w / 2 ^ x) n ∙ sym (shr-shr w 1 (suc k))) ∙ last_level k (w / 2) (level (w / 2) g)
 
--- the side of the square that level t works on
-pub side_even : (m t : ℕ) → t < m → 2 ^ m / 2 ^ t % 2 ≡ 0
-side_even m t l =
-    let n : ℕ = m - t - 1 in
-    let e : m ≡ n + 1 + t = omega arith in
-    let f : 2 ^ m / 2 ^ t ≡ 2 ^ (n + 1) = ap (λ x. 2 ^ x / 2 ^ t) e ∙ ap (λ x. x / 2 ^ t) (pow-add 2 (n + 1) t) ∙ shl-shr (2 ^ (n + 1)) t in
-    let d = pow-add 2 n 1 in
-    rw f (omega arith)
-
 -- one more level of a list that t levels of g have made
 pub level_more : (m t w : ℕ) (g : Grid) (xs ys : List ℤ) → w ≡ 2 ^ m / 2 ^ t → On (2 ^ m) (λ i j. grid_of m xs i j ≡ transform m t g i j) →
     On (2 ^ m) (λ i j. grid_of m ys i j ≡ level (w / 2) (grid_of m xs) i j) → On (2 ^ m) (λ i j. grid_of m ys i j ≡ transform m (t + 1) g i j)

@@ -3,7 +3,8 @@ use Rattle.std.proofs.lemmas.Grind.{common_steps}
 use Rattle.std.proofs.lemmas.Nat.{shr_le}
 use Rattle.transform.specs.Transform.{transform}
 use Rattle.transform.proofs.Planes.{fifteen_planes}
-use Rattle.heights.proofs.Turns.{side_even, level_more}
+use Rattle.heights.proofs.Sides.{side_even}
+use Rattle.heights.proofs.Turns.{level_more}
 use Rattle.heights.proofs.making.transform.Goals as goal
 
 pub loop-t-init : goal.loop-t-init

@@ -1,13 +1,14 @@
 use Rattle.std.proofs.Common.{arith, w32, SFits, rules}
 use Rattle.std.proofs.lemmas.Int.{to_z-of_z}
-use Rattle.heights.proofs.Walks.{walked_more, walked_all, square_in, half_side}
+use Rattle.heights.proofs.Sides.{twice_next, square_in}
+use Rattle.heights.proofs.Walks.{walked_more, walked_all}
 use Rattle.heights.proofs.undoing.undone_at.Goals as goal
 
 pub finer-height-requires-clause-row_in : goal.finer-height-requires-clause-row_in
-finer-height-requires-clause-row_in g c = grind (arith, half_side, square_in)
+finer-height-requires-clause-row_in g c = grind (arith, twice_next, square_in)
 
 pub finer-height-requires-clause-column_in : goal.finer-height-requires-clause-column_in
-finer-height-requires-clause-column_in g c = grind (arith, half_side, square_in)
+finer-height-requires-clause-column_in g c = grind (arith, twice_next, square_in)
 
 pub loop-t-preserved : goal.loop-t-preserved
 loop-t-preserved g c =
