@@ -1,11 +1,12 @@
 use Rattle.std.proofs.Common.{◌≡◌, ℕ, suc, ◌+◌, ◌-◌, ◌*◌, ◌/◌, ◌%◌, ◌^◌, ◌<◌, ◌≤◌, List, length, get_or, ℤ, pos, nat_abs, inl, inr, arith, pow_mono}
 use lib.Count.{count_leading_zeros}
 use Rattle.std.proofs.lemmas.Bool.{cases_lt}
-use Rattle.std.proofs.lemmas.Nat.{div-add-mod', leading_length, pow_pos}
-use Rattle.head.proofs.Squares.{place_in, cell_in}
+use Rattle.std.proofs.lemmas.Nat.{leading_length, pow_pos}
+use Rattle.head.proofs.Squares.{place_in}
 use Rattle.transform.specs.Transform.{grid_of}
-use Rattle.transform.specs.Planes.{BelowPlanes, PlaneCount}
+use Rattle.transform.specs.Planes.{PlaneCount}
 use Rattle.heights.specs.Coefficients.{Top}
+use Rattle.heights.proofs.Sides.{at_places}
 
 -- the binary digits of n
 pub digits : (n r : ℕ) → n < 2 ^ 32 → r + count_leading_zeros 32 n ≡ 32 → (n < 2 ^ r) × ((p : ℕ) → n < 2 ^ p → r ≤ p)
@@ -20,14 +21,8 @@ digits n r h e =
 pub planes_of_top : (m : ℕ) (xs : List ℤ) (t r : ℕ) → length xs ≡ 4 ^ m → Top xs t → t < 2 ^ r → ((p : ℕ) → t < 2 ^ p → r ≤ p) → PlaneCount m (grid_of m xs) r
 planes_of_top m xs t r e top a b = record {
   enough = λ i j p q. let l = top.bounds (i * 2 ^ m + j) (omega (arith, place_in m i j p q)) in omega arith;
-  least = λ n h. b n (let s = pow_pos n in let l = top.least (2 ^ n - 1) (λ p l. below n h p (omega arith)) in omega arith);
+  least = λ n h. b n (let s = pow_pos n in let l = top.least (2 ^ n - 1) (λ p l. omega (arith, at_places m (2 ^ n) xs h p (omega arith))) in omega arith);
 }
-  where
-    below : (n : ℕ) → BelowPlanes m (grid_of m xs) n → (p : ℕ) → p < 4 ^ m → nat_abs (get_or xs p (pos 0)) ≤ 2 ^ n - 1
-    below n h p l =
-        let c = cell_in m p l in
-        let f : nat_abs (get_or xs p (pos 0)) < 2 ^ n = rw (← div-add-mod' p (2 ^ m)) (h (p / 2 ^ m) (p % 2 ^ m) c.0 c.1) in
-        omega arith
 
 -- what is below 2^15 everywhere has at most 15 digits
 pub top_fits : (xs : List ℤ) (t r : ℕ) → ((p : ℕ) → nat_abs (get_or xs p (pos 0)) < 2 ^ 15) → Top xs t → ((p : ℕ) → t < 2 ^ p → r ≤ p) → r ≤ 15

@@ -2,15 +2,15 @@ use Rattle.std.proofs.Common.{◌≡◌, ℕ, ◌+◌, ◌*◌, ◌/◌, ◌%◌
 use borrow.Author.Differences.{ints}
 use Rattle.std.proofs.lemmas.List.{get_or-map, get_or_past, length-map}
 use Rattle.std.proofs.lemmas.Bool.{cases_lt}
-use Rattle.std.proofs.lemmas.Nat.{div-add-mod'}
 use Rattle.frame.specs.Cells.{may_stand, settled}
 use Rattle.frame.specs.Frames.{heights_of}
-use Rattle.head.proofs.Squares.{place_in, cell_in}
+use Rattle.head.proofs.Squares.{place_in}
 use Rattle.transform.specs.Transform.{On, grid_of, transform, undone}
 use Rattle.transform.specs.Planes.{Span, BelowPlanes}
 use Rattle.transform.proofs.Levels.{comes_back, transform_local}
 use Rattle.transform.proofs.Planes.{fifteen_planes}
 use Rattle.transform.proofs.Errors.{undone_local}
+use Rattle.heights.proofs.Sides.{at_places}
 
 stands_span : (o : Option ℤ) → may_stand o ≡ true → Span (settled o)
 stands_span None e = omega (arith, ints)
@@ -18,10 +18,7 @@ stands_span (Some h) e = grind (arith, ints)
 
 -- what is small at every cell of the square is small at every place, since past the end there is 0
 small_places : (m : ℕ) (xs : List ℤ) → length xs ≡ 4 ^ m → BelowPlanes m (grid_of m xs) 15 → (p : ℕ) → nat_abs (get_or xs p (pos 0)) < 2 ^ 15
-small_places m xs e small p = elim (cases_lt p (4 ^ m)) [
-  | inl l ↦ let c = cell_in m p l in rw (← div-add-mod' p (2 ^ m)) (small (p / 2 ^ m) (p % 2 ^ m) c.0 c.1)
-  | inr l ↦ rw (get_or_past xs p (pos 0) (omega arith)) (omega arith)
-]
+small_places m xs e small p = elim (cases_lt p (4 ^ m)) [ inl l ↦ at_places m (2 ^ 15) xs small p l | inr l ↦ rw (get_or_past xs p (pos 0) (omega arith)) (omega arith) ]
 
 -- hs are the heights of a frame of side 2^m with these cells
 pub record Settled (m : ℕ) (cells : List (Option ℤ)) (hs : List ℤ) : Type 0 where

@@ -3,6 +3,7 @@ use mathlib.Core.Path.{fun_ext}
 use Rattle.std.proofs.lemmas.Int.{to_z-of_z}
 use Rattle.std.proofs.lemmas.Bool.{lt-ltb, le-ltb, cases_lt, cases_eq, cond-true, cond-false}
 use Rattle.std.proofs.lemmas.Bool.Decides.{nat_tests}
+use Rattle.std.proofs.lemmas.Grind.{elements}
 use Rattle.std.proofs.lemmas.Nat.{mul-add-lt, div-mul-add, mod-mul-add}
 use Rattle.std.proofs.lemmas.List.{get_or-take, get_or-drop, take_rest, places}
 use borrow.Rule.Slice.PartMut.{put_mid}
@@ -20,8 +21,8 @@ ne stride i j some p e = let d : i * stride < j * stride = mul-lt-mul_of_pos_rig
 -- one of a pair of a list cut into pairs
 pair_in : (xs : List ℤ) (k t j n : ℕ) → t < k → j < 2 → n ≡ 2 * t + j → get_or (get_or (first_chunks 2 k xs) t []) j (pos 0) ≡ get_or xs n (pos 0)
 pair_in xs zero t j n p q e = absurd (omega arith)
-pair_in xs (suc k) zero j n p q e = let f : j ≡ n = omega arith in get_or-take 2 xs j (pos 0) q ∙ ap (λ u. get_or xs u (pos 0)) f
-pair_in xs (suc k) (suc t) j n p q e = let f : 2 + (2 * t + j) ≡ n = omega arith in pair_in (drop 2 xs) k t j (2 * t + j) (omega arith) q refl ∙ get_or-drop 2 xs (2 * t + j) (pos 0) ∙ ap (λ u. get_or xs u (pos 0)) f
+pair_in xs (suc k) zero j n p q e = grind (arith, get_or-take)
+pair_in xs (suc k) (suc t) j n p q e = grind (arith, get_or-drop, pair_in (drop 2 xs) k t j (2 * t + j))
 
 -- and both of a pair of a line's copy
 pub pair_of : (xs line : List ℤ) (stride t : ℕ) (ps : List (List ℤ)) → ps ≡ first_chunks 2 (length line / 2) line → t < length line / 2 → ((k : ℕ) → k < length line → get_or line k (pos 0) ≡ strided xs stride k) →
@@ -38,15 +39,15 @@ pub record Paired (before : List ℤ) (stride h n : ℕ) (xs : List ℤ) : Type 
 pub paired_more : (before : List ℤ) (stride h n : ℕ) (xs : List ℤ) (x y : ℤ) → Paired before stride h n xs → 0 < stride → n < h → ((k : ℕ) → k < 2 * h → k * stride < length xs) → SFits w32 x → SFits w32 y →
     x ≡ low_of (strided before stride (2 * n)) (strided before stride (2 * n + 1)) → y ≡ difference_of (strided before stride (2 * n)) (strided before stride (2 * n + 1)) →
     Paired before stride h (n + 1) (set (set xs (n * stride) (to_z w32 (of_z w32 x))) ((h + n) * stride) (to_z w32 (of_z w32 y)))
-paired_more before stride h n xs x y inv some l inside fx fy ex ey = record {
-  low = below_more _ _
-      (λ k p. let a : k * stride ≢ n * stride = ne stride k n some p in let b : k * stride ≢ (h + n) * stride = ne stride k (h + n) some (omega arith) in rw (get_or-set_other, get_or-set_other) (inv.low k p))
-      (let b : n * stride ≢ (h + n) * stride = ne stride n (h + n) some (omega arith) in let r = inside n (omega arith) in rw (get_or-set_other, get_or-set_same) (to_z-of_z w32 x fx ∙ ex));
-  difference = below_more _ _
-      (λ k p. let a : (h + k) * stride ≢ n * stride = λ e. ne stride n (h + k) some (omega arith) (sym e) in let b : (h + k) * stride ≢ (h + n) * stride = ne stride (h + k) (h + n) some (omega arith) in rw (get_or-set_other, get_or-set_other) (inv.difference k p))
-      (let r : (h + n) * stride < length (set xs (n * stride) (to_z w32 (of_z w32 x))) = simp length-set (inside (h + n) (omega arith)) in rw get_or-set_same (to_z-of_z w32 y fy ∙ ey));
-  rest = λ p out. let a : p ≢ n * stride = out n (omega arith) in let b : p ≢ (h + n) * stride = out (h + n) (omega arith) in rw (get_or-set_other, get_or-set_other) (inv.rest p out);
-}
+paired_more before stride h n xs x y inv some l inside fx fy ex ey =
+    let r = inside n (omega arith) in
+    let t = inside (h + n) (omega arith) in
+    let u = ne stride n (h + n) some (omega arith) in
+    record {
+      low = below_more _ _ (λ k p. let a = ne stride k n some p in let b = ne stride k (h + n) some (omega arith) in grind (arith, elements, inv.low k p)) (grind (arith, elements, to_z-of_z));
+      difference = below_more _ _ (λ k p. let a = ne stride n (h + k) some (omega arith) in let b = ne stride (h + k) (h + n) some (omega arith) in grind (arith, elements, inv.difference k p)) (grind (arith, elements, to_z-of_z));
+      rest = λ p out. let a = out n (omega arith) in let b = out (h + n) (omega arith) in grind (arith, elements, inv.rest p out);
+    }
 
 pub paired_all : (before : List ℤ) (stride h n w : ℕ) (xs : List ℤ) → Paired before stride n n xs → n ≡ h → 0 < stride → h ≡ w / 2 → (t : ℕ) → t < w → strided xs stride t ≡ halved h (strided before stride) t
 paired_all before stride h n w xs all e some half t l = let inv = rw e at all in elim (cases_lt t h) [
@@ -126,13 +127,16 @@ rows_are m xs = fun_ext (λ i. fun_ext (λ j. ap (λ x. get_or xs (i * 2 ^ m + x
 columns_are : (m : ℕ) (xs : List ℤ) (i j : ℕ) → lines_of xs 1 (2 ^ m) j i ≡ grid_of m xs i j
 columns_are m xs i j = let e : j * 1 + i * 2 ^ m ≡ i * 2 ^ m + j = omega arith in ap (λ x. get_or xs x (pos 0)) e
 
+-- the grid whose rows are changed, column by column
+rows_made : (m w h : ℕ) (xs ys : List ℤ) → On (2 ^ m) (λ i j. lines_of ys (2 ^ m) 1 i j ≡ in_rows w (halved h) (lines_of xs (2 ^ m) 1) i j) → (i j : ℕ) → i < 2 ^ m → j < 2 ^ m → lines_of ys 1 (2 ^ m) j i ≡ in_rows w (halved h) (grid_of m xs) i j
+rows_made m w h xs ys rows i j p q = columns_are m ys i j ∙ sym (ap (λ u. u i j) (rows_are m ys)) ∙ rows i j p q ∙ ap (λ u. in_rows w (halved h) u i j) (rows_are m xs)
+
 -- What the rows of xs are halved to is small enough to be halved once more.
 pub columns_fit : (m w : ℕ) (xs ys : List ℤ) → w % 2 ≡ 0 → w ≤ 2 ^ m → BelowPlanes m (grid_of m xs) 15 →
     On (2 ^ m) (λ i j. lines_of ys (2 ^ m) 1 i j ≡ in_rows w (halved (w / 2)) (lines_of xs (2 ^ m) 1) i j) → On (2 ^ m) (λ i j. Small (lines_of ys 1 (2 ^ m) i j))
 columns_fit m w xs ys even le small rows i j p q =
-    let e : lines_of ys 1 (2 ^ m) i j ≡ in_rows w (halved (w / 2)) (grid_of m xs) j i = columns_are m ys j i ∙ sym (ap (λ u. u j i) (rows_are m ys)) ∙ rows j i q p ∙ ap (λ u. in_rows w (halved (w / 2)) u j i) (rows_are m xs) in
     let s = rows_small w (w / 2) (2 ^ m) 32767 (grid_of m xs) (omega arith) (λ i j p q. omega (arith, small i j p q)) j i q p in
-    rw e (omega arith)
+    rw (rows_made m w (w / 2) xs ys rows j i q p) (omega arith)
 
 -- One level: the rows of xs halved are ys, and the columns of ys halved are zs.
 pub level_made : (m w : ℕ) (xs ys zs : List ℤ) → w % 2 ≡ 0 → w ≤ 2 ^ m →
@@ -141,11 +145,10 @@ pub level_made : (m w : ℕ) (xs ys zs : List ℤ) → w % 2 ≡ 0 → w ≤ 2 ^
     On (2 ^ m) (λ i j. grid_of m zs i j ≡ level (w / 2) (grid_of m xs) i j)
 level_made m w xs ys zs even le rows columns i j p q =
     let e : w ≡ 2 * (w / 2) = omega arith in
-    let mid : (r : ℕ) → r < 2 ^ m → lines_of ys 1 (2 ^ m) j r ≡ in_rows w (halved (w / 2)) (grid_of m xs) r j =
-    λ r k. columns_are m ys r j ∙ sym (ap (λ u. u r j) (rows_are m ys)) ∙ rows r j k q ∙ ap (λ u. in_rows w (halved (w / 2)) u r j) (rows_are m xs) in
-    sym (columns_are m zs i j) ∙ columns j i q p ∙ picked (ltb j w) mid ∙ ap (λ u. in_columns u (halved (w / 2)) (in_rows u (halved (w / 2)) (grid_of m xs)) i j) e
-  where
-    picked : (b : Bool) → ((r : ℕ) → r < 2 ^ m → lines_of ys 1 (2 ^ m) j r ≡ in_rows w (halved (w / 2)) (grid_of m xs) r j) →
-        cond b (halved (w / 2) (lines_of ys 1 (2 ^ m) j) i) (lines_of ys 1 (2 ^ m) j i) ≡ cond b (halved (w / 2) (λ r. in_rows w (halved (w / 2)) (grid_of m xs) r j) i) (in_rows w (halved (w / 2)) (grid_of m xs) i j)
-    picked true mid = halved_local (w / 2) (2 ^ m) _ _ (omega arith) mid i p
-    picked false mid = mid i p
+    let between : (r : ℕ) → r < 2 ^ m → lines_of ys 1 (2 ^ m) j r ≡ in_rows w (halved (w / 2)) (grid_of m xs) r j = λ r k. rows_made m w (w / 2) xs ys rows r j k q in
+    let here = halved_local (w / 2) (2 ^ m) _ _ (omega arith) between i p in
+    let stays = between i p in
+    let c = columns j i q p in
+    let z = columns_are m zs i j in
+    let made : grid_of m zs i j ≡ in_columns w (halved (w / 2)) (in_rows w (halved (w / 2)) (grid_of m xs)) i j = grind (arith, nat_tests) in
+    made ∙ ap (λ u. in_columns u (halved (w / 2)) (in_rows u (halved (w / 2)) (grid_of m xs)) i j) e
