@@ -1,9 +1,8 @@
-use Rattle.std.proofs.Common.{◌≡◌, ℕ, suc, ◌+◌, ◌-◌, ◌*◌, ◌/◌, ◌^◌, ◌<◌, ◌≤◌, true, ℤ, pos, nat_abs, sym, refl, ap, ◌∙◌, inl, inr, pow-suc, arith, w32, to_z, of_z}
+use Rattle.std.proofs.Common.{◌≡◌, ℕ, ◌+◌, ◌-◌, ◌*◌, ◌/◌, ◌^◌, ◌<◌, ◌≤◌, ℤ, nat_abs, sym, refl, ap, arith, w32, to_z, of_z}
 use lib.Signed.{mag}
 use Rattle.std.proofs.lemmas.Int.{to_z-of_z}
-use Rattle.std.proofs.lemmas.Nat.{pow-add, shl-shr, shr-shr, shr_below}
+use Rattle.std.proofs.lemmas.Nat.{shr-shr}
 use Rattle.std.proofs.lemmas.Bool.Decides.{nat_tests}
-use Rattle.head.specs.Heads.{inside}
 use Rattle.transform.specs.Transform.{Grid, unlevels, undone}
 use Rattle.transform.specs.Planes.{BelowPlanes}
 use Rattle.transform.proofs.Cells.{cell}

@@ -85,6 +85,7 @@ fn undone_at<G: CoefficientGrid>(grid: &G, row: usize, column: usize) -> i32
     let shape = grid.shape();
     let levels = shape.levels();
     let mut height = grid.coefficient(row >> levels, column >> levels);
+    // A loop and not a fold: what `finer` asks of the height so far is the invariant, which a closure would have to say once more.
     for t in (0..levels).rev() {
         height = finer(grid, shape.side() >> (t + 1), row >> t, column >> t, height);
     }
