@@ -1,11 +1,12 @@
-use Rattle.std.proofs.Common.{◌≡◌, ℕ, suc, ◌+◌, ◌-◌, ◌*◌, ◌/◌, ◌%◌, ◌^◌, ◌<◌, ◌≤◌, max, List, length, get_or, ℤ, pos, nat_abs, inl, inr, arith, pow_mono, below_more}
+use Rattle.std.proofs.Common.{◌≡◌, ℕ, suc, ◌+◌, ◌-◌, ◌*◌, ◌^◌, ◌<◌, ◌≤◌, List, length, get_or, ℤ, pos, nat_abs, inl, inr, arith, pow_mono}
 use lib.Count.{count_leading_zeros}
 use Rattle.std.proofs.lemmas.Bool.{cases_lt}
-use Rattle.std.proofs.lemmas.Nat.{div-add-mod', leading_length, pow_pos}
-use Rattle.head.proofs.Squares.{place_in, cell_in}
+use Rattle.std.proofs.lemmas.Nat.{leading_length, pow_pos}
+use Rattle.head.proofs.Squares.{place_in}
 use Rattle.transform.specs.Transform.{grid_of}
-use Rattle.transform.specs.Planes.{BelowPlanes, PlaneCount}
+use Rattle.transform.specs.Planes.{PlaneCount}
 use Rattle.heights.specs.Coefficients.{Top}
+use Rattle.heights.proofs.Sides.{at_places}
 
 -- the binary digits of n
 pub digits : (n r : ℕ) → n < 2 ^ 32 → r + count_leading_zeros 32 n ≡ 32 → (n < 2 ^ r) × ((p : ℕ) → n < 2 ^ p → r ≤ p)
@@ -16,35 +17,12 @@ digits n r h e =
     let b : 2 ^ r ≤ 2 * n + 1 = rw q at l.3 in
     (a, λ p c. elim (cases_lt p r) [ inr d ↦ d | inl d ↦ absurd (let m : 2 ^ suc p ≤ 2 ^ r = pow_mono d in omega arith) ])
 
--- t is the largest magnitude of the first n numbers
-pub record TopTo (xs : List ℤ) (n t : ℕ) : Type 0 where
-  pub bounds : (p : ℕ) → p < n → nat_abs (get_or xs p (pos 0)) ≤ t
-  pub least : (b : ℕ) → ((p : ℕ) → p < n → nat_abs (get_or xs p (pos 0)) ≤ b) → t ≤ b
-
-pub top_none : (xs : List ℤ) → TopTo xs 0 0
-top_none xs = record { bounds = λ p l. absurd (omega arith); least = λ b h. omega arith }
-
-pub top_more : (xs : List ℤ) (i t v : ℕ) → TopTo xs i t → v ≡ nat_abs (get_or xs i (pos 0)) → TopTo xs (i + 1) (max t v)
-top_more xs i t v inv e = record {
-  bounds = below_more _ _ (λ p l. let b = inv.bounds p l in omega arith) (omega arith);
-  least = λ b h. let x = inv.least b (λ p l. h p (omega arith)) in let y = h i (omega arith) in omega arith;
-}
-
-pub top_all : (xs : List ℤ) (n t : ℕ) → n ≡ length xs → TopTo xs n t → Top xs t
-top_all xs n t e inv = record { bounds = λ p l. inv.bounds p (omega arith); least = λ b h. inv.least b (λ p l. h p (omega arith)) }
-
 -- the digits of the largest magnitude are the planes of the grid
 pub planes_of_top : (m : ℕ) (xs : List ℤ) (t r : ℕ) → length xs ≡ 4 ^ m → Top xs t → t < 2 ^ r → ((p : ℕ) → t < 2 ^ p → r ≤ p) → PlaneCount m (grid_of m xs) r
 planes_of_top m xs t r e top a b = record {
   enough = λ i j p q. let l = top.bounds (i * 2 ^ m + j) (omega (arith, place_in m i j p q)) in omega arith;
-  least = λ n h. b n (let s = pow_pos n in let l = top.least (2 ^ n - 1) (λ p l. below n h p (omega arith)) in omega arith);
+  least = λ n h. b n (let s = pow_pos n in let l = top.least (2 ^ n - 1) (λ p l. omega (arith, at_places m (2 ^ n) xs h p (omega arith))) in omega arith);
 }
-  where
-    below : (n : ℕ) → BelowPlanes m (grid_of m xs) n → (p : ℕ) → p < 4 ^ m → nat_abs (get_or xs p (pos 0)) ≤ 2 ^ n - 1
-    below n h p l =
-        let c = cell_in m p l in
-        let f : nat_abs (get_or xs p (pos 0)) < 2 ^ n = rw (← div-add-mod' p (2 ^ m)) (h (p / 2 ^ m) (p % 2 ^ m) c.0 c.1) in
-        omega arith
 
 -- what is below 2^15 everywhere has at most 15 digits
 pub top_fits : (xs : List ℤ) (t r : ℕ) → ((p : ℕ) → nat_abs (get_or xs p (pos 0)) < 2 ^ 15) → Top xs t → ((p : ℕ) → t < 2 ^ p → r ≤ p) → r ≤ 15

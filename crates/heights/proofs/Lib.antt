@@ -1,6 +1,6 @@
 pub mod Strides
+pub mod Sides
 pub mod Turns
 pub mod Settling
 pub mod Walks
-pub mod Drawing
 pub mod Digits

@@ -1,67 +1,43 @@
-use Rattle.std.proofs.Common.{◌≡◌, ℕ, suc, ◌+◌, ◌-◌, ◌*◌, ◌/◌, ◌%◌, ◌^◌, ◌<◌, ◌≤◌, true, ℤ, pos, nat_abs, sym, refl, ap, ◌∙◌, pow-suc, arith}
-use borrow.Author.Differences.{ints}
-use Rattle.std.proofs.lemmas.Nat.{pow-add, shl-shr, shr-shr, shr_below}
-use Rattle.std.proofs.lemmas.Bool.{lt-ltb, eq-eqb, ne_eqb, cond-true, cond-false}
-use Rattle.head.specs.Heads.{inside}
-use Rattle.transform.specs.Transform.{Grid, first_of, second_of, one_of, unlevels, undone}
+use Rattle.std.proofs.Common.{◌≡◌, ℕ, ◌+◌, ◌-◌, ◌*◌, ◌/◌, ◌^◌, ◌<◌, ◌≤◌, ℤ, nat_abs, sym, refl, ap, arith, w32, to_z, of_z}
+use lib.Signed.{mag}
+use Rattle.std.proofs.lemmas.Int.{to_z-of_z}
+use Rattle.std.proofs.lemmas.Nat.{shr-shr}
+use Rattle.std.proofs.lemmas.Bool.Decides.{nat_tests}
+use Rattle.transform.specs.Transform.{Grid, unlevels, undone}
 use Rattle.transform.specs.Planes.{BelowPlanes}
-use Rattle.transform.proofs.Cells.{cell, half_abs}
+use Rattle.transform.proofs.Cells.{cell}
 use Rattle.heights.specs.Reading.{reading_at, block_of}
-
--- the two of a pair that the code may pick
-pub picked_first : (j : ℕ) (l d r : ℤ) → r ≡ first_of l d → j % 2 ≡ 0 → record { value : r ≡ one_of j l d; small : nat_abs r ≤ nat_abs l + (nat_abs d + 1) / 2 }
-unfolding one_of
-picked_first j l d r e z = record { value = e ∙ sym (cond-true _ _ _ (eq-eqb (j % 2) 0 z)); small = let b = half_abs d _ refl in rw e (omega (arith, ints)) }
-
-pub picked_second : (j : ℕ) (l d r : ℤ) → r ≡ second_of l d → (j % 2 ≡ 0 → ⊥) → record { value : r ≡ one_of j l d; small : nat_abs r ≤ nat_abs l + (nat_abs d + 1) / 2 }
-unfolding one_of
-picked_second j l d r e z = record { value = e ∙ sym (cond-false _ _ _ (ne_eqb (j % 2) 0 z)); small = let b = half_abs d _ refl in rw e (omega (arith, ints)) }
+use Rattle.heights.proofs.Sides.{side_at, twice_next, square_in}
 
 -- a coefficient that was read
 pub read_in : (m : ℕ) (g : Grid) (i j : ℕ) → i < 2 ^ m → j < 2 ^ m → reading_at m g i j ≡ g i j
-read_in m g i j p q = let e : inside m i j ≡ true = rw (lt-ltb i (2 ^ m) p) (lt-ltb j (2 ^ m) q) in cond-true (inside m i j) (g i j) (pos 0) e
+read_in m g i j p q = grind (arith, nat_tests)
 
-pub read_small : (m : ℕ) (g : Grid) (i j : ℕ) (r : ℤ) → BelowPlanes m g 15 → i < 2 ^ m → j < 2 ^ m → r ≡ reading_at m g i j → (r ≡ g i j) × (nat_abs r ≤ 32767)
-read_small m g i j r small p q e = let f : r ≡ g i j = e ∙ read_in m g i j p q in (f, rw f (let s = small i j p q in omega arith))
+pub read_small : (m : ℕ) (g : Grid) → BelowPlanes m g 15 → (i j : ℕ) (r : ℤ) → r ≡ reading_at m g i j → nat_abs r ≤ 32767
+read_small m g small i j r e = grind (arith, nat_tests, small i j)
+
+-- how a call's clause has a number that it was passed
+pub cast_abs : (z : ℤ) → mag z < 2147483648 → nat_abs (to_z w32 (of_z w32 z)) ≡ nat_abs z
+cast_abs z h = ap nat_abs (to_z-of_z w32 z (record { sfits = h }))
 
 -- With t levels still to undo, v is the height of the square that the cell lies in.
 pub record Walked (m k row column : ℕ) (g : Grid) (t : ℕ) (v : ℤ) : Type 0 where
   pub here : v ≡ unlevels (k - t) (2 ^ (m - t)) g (row / 2 ^ t) (column / 2 ^ t)
   pub bound : nat_abs v ≤ 32767 + (k - t) * 40960
 
-pub walked_none : (m k row column : ℕ) (g : Grid) (v : ℤ) → (v ≡ g (row / 2 ^ k) (column / 2 ^ k)) × (nat_abs v ≤ 32767) → Walked m k row column g k v
-walked_none m k row column g v e = record { here = e.0 ∙ ap (λ n. unlevels n (2 ^ (m - k)) g (row / 2 ^ k) (column / 2 ^ k)) (let z : 0 ≡ k - k = omega arith in z); bound = omega arith }
-
--- the cell's square of side 2^(m - u), and half that side
-pub square_in : (m u x : ℕ) → u ≤ m → x < 2 ^ m → x / 2 ^ u < 2 ^ (m - u)
-square_in m u x l h = let e : m ≡ (m - u) + u = omega arith in shr_below x (m - u) u (rw e at h)
-
-double : (n : ℕ) → 2 * 2 ^ n ≡ 2 ^ suc n
-double n = let e = pow-suc 2 n in omega arith
-
-pub half_side : (m u : ℕ) → u < m → 2 * (2 ^ m / 2 ^ (u + 1)) ≡ 2 ^ (m - u)
-half_side m u l =
-    let n : ℕ = m - (u + 1) in
-    let e : m ≡ n + (u + 1) = omega arith in
-    let f : 2 ^ m / 2 ^ (u + 1) ≡ 2 ^ n = ap (λ x. 2 ^ x / 2 ^ (u + 1)) e ∙ ap (λ x. x / 2 ^ (u + 1)) (pow-add 2 n (u + 1)) ∙ shl-shr (2 ^ n) (u + 1) in
-    let d : m - u ≡ suc n = omega arith in
-    rw (f, d) (double n)
-
-half_place : (x u : ℕ) → x / 2 ^ u / 2 ≡ x / 2 ^ (u + 1)
-half_place x u = shr-shr x u 1
-
-halves : (n n' h : ℕ) → n ≡ suc n' → 2 * h ≡ 2 ^ n → 2 ^ n' ≡ h
-halves n n' h e f = let d = double n' in let g : 2 * h ≡ 2 ^ suc n' = f ∙ ap (λ x. 2 ^ x) e in omega arith
-
-pub walked_more : (m k row column h : ℕ) (g : Grid) (u : ℕ) (v r : ℤ) → u < k → k ≤ m → row < 2 ^ m → column < 2 ^ m → 2 * h ≡ 2 ^ (m - u) → Walked m k row column g (u + 1) v →
-    r ≡ block_of h g v (row / 2 ^ u) (column / 2 ^ u) → nat_abs r ≤ nat_abs v + 40960 → Walked m k row column g u r
-walked_more m k row column h g u v r uk km rl cl eh inv e b =
+pub walked_more : (m k row column s : ℕ) (g : Grid) (t : ℕ) (v r : ℤ) → Walked m k row column g t v → 0 < t → t ≤ k → k ≤ m → s ≡ 2 ^ m → row < 2 ^ m → column < 2 ^ m →
+    r ≡ block_of (s / 2 ^ (t - 1 + 1)) g v (row / 2 ^ (t - 1)) (column / 2 ^ (t - 1)) → nat_abs r ≤ nat_abs v + 40960 → Walked m k row column g (t - 1) r
+walked_more m k row column s g t v r inv some tk km es rl cl e b =
+    let u : ℕ = t - 1 in
+    let n : t ≡ u + 1 = omega arith in
+    let h : ℕ = s / 2 ^ (u + 1) in
+    let w : 2 ^ (m - u) ≡ 2 * h = rw es (sym (twice_next m u (omega arith))) in
+    let em : 2 ^ (m - (u + 1)) ≡ h = rw es (sym (side_at m (u + 1) (omega arith))) in
     let ek : k - (u + 1) ≡ k - u - 1 = omega arith in
-    let em : 2 ^ (m - (u + 1)) ≡ h = halves (m - u) (m - (u + 1)) h (omega arith) eh in
-    let el : v ≡ unlevels (k - u - 1) h g (row / 2 ^ u / 2) (column / 2 ^ u / 2) = rw (half_place row u, half_place column u, ← ek, ← em) inv.here in
+    let above : v ≡ unlevels (k - u - 1) h g (row / 2 ^ u / 2) (column / 2 ^ u / 2) = rw (shr-shr row u 1, shr-shr column u 1, ← ek, ← em) (rw n at inv.here) in
     let bv = inv.bound in
     record {
-      here = cell (k - u) (2 ^ (m - u)) h g (row / 2 ^ u) (column / 2 ^ u) v _ _ _ r (omega arith) (sym eh) (square_in m u row (omega arith) rl) (square_in m u column (omega arith) cl) el refl refl refl e;
+      here = cell (k - u) (2 ^ (m - u)) h g (row / 2 ^ u) (column / 2 ^ u) v _ _ _ r (omega arith) w (square_in m u row (omega arith) rl) (square_in m u column (omega arith) cl) above refl refl refl e;
       bound = omega arith;
     }
 

@@ -1,13 +1,17 @@
-use Rattle.std.specs.Prelude.{◌≡◌, ℕ, ◌+◌, ◌*◌, ◌<◌, List, ℤ, pos, slice_index_or}
+use Rattle.std.specs.Prelude.{◌≡◌, ℕ, ◌+◌, ◌*◌, ◌<◌, ◌≤◌, List, ℤ, pos, slice_index_or, unsigned_abs}
 use Rattle.transform.specs.Transform.{Line, Grid, On}
 
--- the numbers of a list from a place on, each so many places behind the one before
-abbrev pub line_at : List ℤ → ℕ → ℕ → Line
-line_at xs start stride t = slice_index_or xs (start + t * stride) (pos 0)
+-- what can be halved, and undone, in 32 bits
+abbrev pub Small : ℤ → Type 0
+Small z = unsigned_abs z ≤ 1048576
+
+-- the numbers of a list that stand a stride apart, from its front on
+abbrev pub strided : List ℤ → ℕ → Line
+strided xs stride t = slice_index_or xs (t * stride) (pos 0)
 
 -- A list as lines: line i begins at i * across, and its numbers lie `along` apart. Rows have across = 2^m and along = 1, and columns the other way round.
 abbrev pub lines_of : List ℤ → ℕ → ℕ → Grid
-lines_of xs across along i = line_at xs (i * across) along
+lines_of xs across along i j = slice_index_or xs (i * across + j * along) (pos 0)
 
 -- In a square of side s no two cells lie at one place.
 abbrev pub Apart : ℕ → ℕ → ℕ → Type 0

@@ -1,9 +1,8 @@
-use Rattle.std.specs.Prelude.{◌≡◌, ℕ, ◌+◌, ◌/◌, ◌%◌, ◌^◌, ◌≤◌, cond, ◌&&◌, List, length, ℤ, pos, nat_le, nat_lt, slice_index_or, unsigned_abs}
+use Rattle.std.specs.Prelude.{ℕ, ◌+◌, ◌/◌, ◌%◌, ◌^◌, cond, ◌&&◌, List, length, ℤ, pos, nat_le, nat_lt, slice_index_or}
 use Rattle.head.specs.Heads.{inside}
 use Rattle.head.specs.declared.refusals.Refusal.{Refusal}
 use Rattle.head.specs.declared.refusals.Refusal.TheVariants as refusal
 use Rattle.transform.specs.Transform.{Grid, one_of}
-use Rattle.heights.specs.declared.undoing.Differences.{Differences}
 use Rattle.heights.specs.declared.undoing.ReadFault.{ReadFault}
 use Rattle.heights.specs.declared.undoing.ReadFault.TheVariants as fault
 
@@ -15,15 +14,6 @@ refusal_of fault.Buffer = refusal.Buffer
 -- the number of a grid of side 2^m at a cell; 0 outside
 abbrev pub reading_at : ℕ → Grid → ℕ → ℕ → ℤ
 reading_at m g row column = cond (inside m row column) (g row column) (pos 0)
-
--- The differences of a cell's block: the coefficients below, beside and across its low, which lie in squares of side h. They have at most 15 planes.
-pub record DifferencesAt (h : ℕ) (g : Grid) (row column : ℕ) (d : Differences) : Type 0 where
-  pub below : d.below ≡ g (h + row / 2) (column / 2)
-  pub beside : d.beside ≡ g (row / 2) (h + column / 2)
-  pub across : d.across ≡ g (h + row / 2) (h + column / 2)
-  pub below_small : unsigned_abs d.below ≤ 32767
-  pub beside_small : unsigned_abs d.beside ≤ 32767
-  pub across_small : unsigned_abs d.across ≤ 32767
 
 -- A cell of a block of four, from the block's low and its differences.
 abbrev pub block_of : ℕ → Grid → ℤ → ℕ → ℕ → ℤ

@@ -13,20 +13,22 @@ use std::alloc::{AllocError, Global};
 fn settle(frame: &ClosedFrame, heap: Global) -> Result<Vec<i32>, AllocError>
     ensures { IfOk result (λ v. v.items ≡ map settled frame.now.cells.items) }
 {
-    frame.cells().iter().map(|cell| cell.unwrap_or(UNTOLD)).collect(heap)
+    frame
+        .cells()
+        .iter()
+        .map(|cell| cell.unwrap_or(UNTOLD))
+        .collect(heap)
 }
 
 // Turns heights in row order into their coefficients, in place.
-fn transform(values: &mut [i32], shape: Shape, levels: u8)
+fn transform(values: &mut [i32], shape: Shape)
     requires whole { 4 ^ shape.exponent ≤ length values.old }
     requires span { On (2 ^ shape.exponent) (λ i j. Span (grid_of shape.exponent values.old i j)) }
-    ensures { On (2 ^ shape.exponent) (λ i j. grid_of shape.exponent values.new i j ≡ transform_of shape.exponent levels (grid_of shape.exponent values.old) i j) }
+    ensures { On (2 ^ shape.exponent) (λ i j. grid_of shape.exponent values.new i j ≡ transform_of shape.exponent shape.levels (grid_of shape.exponent values.old) i j) }
 {
     let mut line = [0i32; 64];
-    let mut side = shape.side();
-    for t in 0..levels {
-        side = side / 2;
-        level(values, shape, side, &mut line);
+    for t in 0..shape.levels() {
+        level(values, shape, &mut line[..shape.side() >> t]);
     }
 }
 
@@ -37,7 +39,7 @@ impl Coefficients {
     {
         let shape = frame.shape();
         let mut values = settle(frame, heap)?;
-        transform(values.as_mut_slice(), shape, shape.levels());
+        transform(values.as_mut_slice(), shape);
         Ok(Coefficients { shape, values })
     }
 }

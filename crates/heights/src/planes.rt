@@ -10,7 +10,7 @@ fn bit_length(n: u32) -> u8
     ensures enough { n < 2 ^ result }
     ensures least { (p : ℕ) → n < 2 ^ p → result ≤ p }
 {
-    (32 - n.leading_zeros()) as u8
+    (u32::BITS - n.leading_zeros()) as u8
 }
 
 impl Coefficients {
@@ -18,11 +18,11 @@ impl Coefficients {
     fn top(&self) -> u32
         ensures { Top self.now.values.items result }
     {
-        let mut top = 0;
-        for value in self.values.iter() {
-            top = top.max(value.unsigned_abs());
-        }
-        top
+        self.values
+            .iter()
+            .map(|value| value.unsigned_abs())
+            .max()
+            .unwrap_or(0)
     }
 
     // The head of these coefficients, with the least number of planes that holds them all.

@@ -17,10 +17,9 @@ impl CoefficientGrid for Coefficients {
     }
 
     fn coefficient(&self, row: usize, column: usize) -> i32 {
-        match self.shape.place(row, column) {
-            Some(place) => self.values[place],
-            None => 0,
-        }
+        self.shape
+            .place(row, column)
+            .map_or(0, |place| self.values[place])
     }
 }
 

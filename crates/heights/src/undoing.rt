@@ -5,7 +5,8 @@ ghost use Rattle.head.specs.Heads.{inside};
 ghost use Rattle.head.specs.declared.Shape.{Shape};
 ghost use Rattle.transform.specs.Planes.{BelowPlanes};
 ghost use Rattle.transform.specs.Transform.{one_of, undone};
-ghost use Rattle.heights.specs.Reading.{DifferencesAt, block_of, drawn, reading_at, refusal_of};
+ghost use Rattle.heights.specs.Lines.{Small};
+ghost use Rattle.heights.specs.Reading.{block_of, drawn, reading_at, refusal_of};
 ghost use Rattle.heights.specs.declared.undoing.ReadFault.TheVariants.{Buffer, Cell};
 
 use crate::halving::unhalve;
@@ -48,43 +49,13 @@ impl From<ReadFault> for Refusal {
 
 // What stands at `place`, an even or an odd one, of the pair with this low and difference.
 fn one_of(place: usize, low: i32, difference: i32) -> i32
-    requires low_small { unsigned_abs low ≤ 524288 }
-    requires difference_small { unsigned_abs difference ≤ 524288 }
+    requires low_small { Small low }
+    requires difference_small { Small difference }
     ensures value { result ≡ one_of place low difference }
     ensures small { unsigned_abs result ≤ unsigned_abs low + (unsigned_abs difference + 1) / 2 }
 {
     let (first, second) = unhalve(low, difference);
     if place % 2 == 0 { first } else { second }
-}
-
-// The three differences of a block of four cells.
-#[derive(Clone, Copy)]
-struct Differences {
-    below: i32,
-    beside: i32,
-    across: i32,
-}
-
-// The differences of the block that a cell lies in, in a square whose half side is `half`.
-fn differences_at<G: CoefficientGrid>(
-    grid: &G,
-    half: usize,
-    row: usize,
-    column: usize,
-) -> Differences
-    requires inner { 2 * half ≤ 2 ^ (G.shaped grid.now).exponent }
-    requires row_in { row < 2 * half }
-    requires column_in { column < 2 * half }
-    ensures { DifferencesAt half (G.coefs grid.now) row column result }
-{
-    let below = grid.coefficient(half + row / 2, column / 2);
-    let beside = grid.coefficient(row / 2, half + column / 2);
-    let across = grid.coefficient(half + row / 2, half + column / 2);
-    Differences {
-        below,
-        beside,
-        across,
-    }
 }
 
 // One cell of a square whose half side is `half`, from the low above it and the differences of its block.
@@ -96,9 +67,11 @@ fn finer<G: CoefficientGrid>(grid: &G, half: usize, row: usize, column: usize, l
     ensures value { result ≡ block_of half (G.coefs grid.now) low row column }
     ensures small { unsigned_abs result ≤ unsigned_abs low + 40960 }
 {
-    let block = differences_at(grid, half, row, column);
-    let left = one_of(row, low, block.below);
-    let right = one_of(row, block.beside, block.across);
+    let below = grid.coefficient(half + row / 2, column / 2);
+    let beside = grid.coefficient(row / 2, half + column / 2);
+    let across = grid.coefficient(half + row / 2, half + column / 2);
+    let left = one_of(row, low, below);
+    let right = one_of(row, beside, across);
     one_of(column, left, right)
 }
 
@@ -112,6 +85,7 @@ fn undone_at<G: CoefficientGrid>(grid: &G, row: usize, column: usize) -> i32
     let shape = grid.shape();
     let levels = shape.levels();
     let mut height = grid.coefficient(row >> levels, column >> levels);
+    // A loop and not a fold: what `finer` asks of the height so far is the invariant, which a closure would have to say once more.
     for t in (0..levels).rev() {
         height = finer(grid, shape.side() >> (t + 1), row >> t, column >> t, height);
     }
@@ -122,10 +96,7 @@ fn undone_at<G: CoefficientGrid>(grid: &G, row: usize, column: usize) -> i32
 pub fn height<G: CoefficientGrid>(grid: &G, row: usize, column: usize) -> Result<i32, ReadFault>
     ensures { Answers result (if inside (G.shaped grid.now).exponent row column then None else Some Cell) (λ h. (h ≡ undone (G.shaped grid.now).exponent (G.shaped grid.now).levels (G.coefs grid.now) row column) × (unsigned_abs h ≤ 278527)) }
 {
-    let side = grid.shape().side();
-    if row >= side || column >= side {
-        return Err(ReadFault::Cell);
-    }
+    grid.shape().place(row, column).ok_or(ReadFault::Cell)?;
     Ok(undone_at(grid, row, column))
 }
 
@@ -135,13 +106,12 @@ pub fn map<G: CoefficientGrid>(grid: &G, out: &mut [i32]) -> Result<(), ReadFaul
     ensures heights { (p : ℕ) → slice_index_or out.new p (pos 0) ≡ drawn (G.shaped grid.now).exponent (undone (G.shaped grid.now).exponent (G.shaped grid.now).levels (G.coefs grid.now)) out.old p }
 {
     let shape = grid.shape();
-    let area = shape.area();
-    if out.len() < area {
-        return Err(ReadFault::Buffer);
-    }
     let side = shape.side();
-    for p in 0..area {
-        out[p] = undone_at(grid, p / side, p % side);
+    let (heights, _) = out
+        .split_at_mut_checked(shape.area())
+        .ok_or(ReadFault::Buffer)?;
+    for (p, height) in heights.iter_mut().enumerate() {
+        *height = undone_at(grid, p / side, p % side);
     }
     Ok(())
 }

@@ -1,13 +1,13 @@
-use Rattle.std.proofs.Common.{◌≡◌, pos, ◌+ℤ◌, ◌-ℤ◌, ap, ◌∙◌, arith}
+use Rattle.std.proofs.Common.{arith}
 use borrow.Author.Differences.{ints}
 use Rattle.std.proofs.lemmas.Int.{to_z-of_z}
-use Rattle.transform.specs.Transform.{floor_half}
-use Rattle.transform.proofs.Cells.{half_abs}
 use Rattle.heights.proofs.halving.unhalve.Goals as goal
 
-pub returns : goal.returns
-returns c =
-    let f = c.ranges.difference in
-    let v : c.half_up.result ≡ floor_half (c.args.difference +ℤ pos 1) = simp to_z-of_z at c.half_up.ensures in
-    let b = half_abs c.args.difference c.half_up.result v in
-    record { first = omega (arith, ints) ∙ ap (λ x. c.args.low +ℤ x) v; second = omega (arith, ints) ∙ ap (λ x. (c.args.low +ℤ x) -ℤ c.args.difference) v }
+pub overflow_sub-result : goal.overflow_sub-result
+overflow_sub-result c = search (arith, ints)
+
+pub returns-clause-first : goal.returns-clause-first
+returns-clause-first c = grind (arith, to_z-of_z)
+
+pub returns-clause-second : goal.returns-clause-second
+returns-clause-second c = grind (arith, to_z-of_z)
