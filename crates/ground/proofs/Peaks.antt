@@ -99,12 +99,6 @@ inner_tree m s i j t e k l w q p r =
       column = subst (λ n. l < 2 ^ n) z (upper_below e l (m - s) (subst (λ x. x < 2 ^ (m - s)) (sym r) w.column));
     }
 
-pub quarter_tree : (m s t i j k l : ℕ) → InTree m s i j → s ≡ t + 1 → k ≤ 2 * i + 1 → l ≤ 2 * j + 1 → InTree m t k l
-quarter_tree m s t i j k l w e p q =
-    let z : m - t ≡ suc (m - s) = omega (arith, w.side) in
-    let d = ap (λ n. 2 ^ n) z ∙ pow-suc 2 (m - s) in
-    record { side = omega (arith, w.side); row = omega (arith, w.row); column = omega (arith, w.column) }
-
 pub peak_cell : (g : Grid) (s i j : ℕ) → s ≡ 0 → peak_of g s i j ≡ nat_abs (g i j)
 unfolding peak_of
 peak_cell g zero i j e = refl

@@ -1,12 +1,6 @@
-use Rattle.std.proofs.Common.{◌≡◌, ℕ, zero, suc, ◌+◌, ◌-◌, ◌*◌, ◌/◌, ◌<◌, ◌≤◌, ◌⊎◌, ℤ, pos, ◌+ℤ◌, ◌-ℤ◌, nat_abs, sym, refl, ap, ◌∙◌, ap₂, inl, inr, arith}
-use borrow.Author.Differences.{ints}
-use Rattle.transform.specs.Transform.{Grid, floor_half, one_of, unlevel, unlevels}
-use Rattle.transform.proofs.Halving.{half_is}
+use Rattle.std.proofs.Common.{◌≡◌, ℕ, zero, suc, ◌+◌, ◌-◌, ◌*◌, ◌/◌, ◌<◌, ◌≤◌, ◌⊎◌, ℤ, sym, refl, ap, ◌∙◌, ap₂, inl, inr, arith}
+use Rattle.transform.specs.Transform.{Grid, one_of, unlevel, unlevels}
 use Rattle.transform.proofs.Errors.{unlevel_in, unlevel_out}
-
--- how far a half of d + 1, and that less d, is from 0
-pub half_abs : (d h : ℤ) → h ≡ floor_half (d +ℤ pos 1) → (nat_abs h ≤ (nat_abs d + 1) / 2) × (nat_abs (h -ℤ d) ≤ (nat_abs d + 1) / 2)
-half_abs d h e = omega (arith, ints, half_is (d +ℤ pos 1))
 
 -- what no undone level touches
 pub unlevels_out : (k w : ℕ) (g : Grid) (i j : ℕ) → (w ≤ i) ⊎ (w ≤ j) → unlevels k w g i j ≡ g i j
@@ -36,7 +30,3 @@ cell (suc k) w h g i j l a b c r z e p q el ea eb ec er =
     let b2 : b ≡ u (i / 2) (h + j / 2) = eb ∙ sym (unlevels_out k h g _ _ (inr (omega arith))) in
     let c2 : c ≡ u (h + i / 2) (h + j / 2) = ec ∙ sym (unlevels_out k h g _ _ (inl (omega arith))) in
     er ∙ ap₂ (one_of j) (ap₂ (one_of i) il2 a2) (ap₂ (one_of i) b2 c2) ∙ sym (unlevel_in h u i j il jl) ∙ ap (λ x. unlevel x (unlevels k x g) i j) (sym half)
-
--- the magnitude of a cell, from those of the low above it and of the three coefficients
-pub finer_bound : (l a b c x y r : ℕ) → a ≤ 32767 → b ≤ 32767 → c ≤ 32767 → x ≤ l + (a + 1) / 2 → y ≤ b + (c + 1) / 2 → r ≤ x + (y + 1) / 2 → r ≤ l + 40960
-finer_bound l a b c x y r p q s t u v = omega arith
