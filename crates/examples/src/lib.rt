@@ -18,6 +18,7 @@ pub fn coefficients(heap: Global) -> Result<Coefficients, AllocError>
 {
     let shape = Shape::new(1, 1).unwrap();
     let mut frame = OpenFrame::open(shape, heap)?;
+    // Four calls and no loop, which would need an invariant of its own for four cells.
     let _ = frame.enter(0, 0, 10);
     let _ = frame.enter(0, 1, 7);
     let _ = frame.enter(1, 0, 4);

@@ -50,7 +50,7 @@ fn fill(peaks: &mut [u16], coefficients: &Coefficients, depth: u8, row: usize, c
     peak
 }
 
-// The magnitude of a cell of the grid.
+// The magnitude of a cell of the grid. The cast is proved to lose nothing.
 fn magnitude(coefficients: &Coefficients, row: usize, column: usize) -> u16
     requires row_in { row < 2 ^ coefficients.now.shape.exponent }
     requires column_in { column < 2 ^ coefficients.now.shape.exponent }
@@ -61,7 +61,7 @@ fn magnitude(coefficients: &Coefficients, row: usize, column: usize) -> u16
 }
 
 impl PeakGrid {
-    // The ground of a closed frame's heights.
+    // The ground of a closed frame's heights. Not one function of a trait with the bare grid's: that one is made without memory and cannot fail.
     pub fn of(frame: &ClosedFrame, heap: Global) -> Result<PeakGrid, AllocError>
         ensures { IfOk result (λ p. GroundOf frame.now p.bare.head (coefficients_of p.bare.coefficients)) }
     {

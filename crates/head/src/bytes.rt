@@ -7,6 +7,7 @@ use super::*;
 // The edition of the format, the first of the four bytes.
 const EDITION: u8 = 1;
 
+// Methods with names, as `u32::from_be_bytes`, and not `From` and `TryFrom`: the name says that the numbers are a format's bytes.
 impl Head {
     // The head's four bytes: the edition, the side exponent, the levels, the planes.
     pub fn to_bytes(&self) -> [u8; 4]

@@ -22,6 +22,7 @@ pub enum Refusal {
 }
 
 impl Refusal {
+    // The discriminant is the number, which `as` reads off.
     pub fn number(self) -> u8
         ensures { result ≡ number_of self }
     {

@@ -5,7 +5,7 @@ ghost use Rattle.heights.specs.Coefficients.{Top, coefficients_of};
 use super::*;
 use head::Head;
 
-// The number of binary digits of `n`.
+// The number of binary digits of `n`. A cast that is proved to lose nothing, where `try_from` would have a case that never comes.
 fn bit_length(n: u32) -> u8
     ensures enough { n < 2 ^ result }
     ensures least { (p : ℕ) → n < 2 ^ p → result ≤ p }

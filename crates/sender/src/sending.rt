@@ -9,7 +9,7 @@ use ground::Ground;
 use std::alloc::Global;
 use walk::Walk;
 
-// Refuses a slot that is too large, and a buffer that cannot hold it.
+// Refuses a slot that is too large, and a buffer that cannot hold it. The slot counts bits and the buffer has bytes, so no slice says both.
 pub(crate) fn admit(slot: usize, out: &[u8]) -> Result<(), SendFault>
     ensures { Answers result (slot_fault slot out.now) (λ _. Unit {0}) }
 {
@@ -35,6 +35,7 @@ pub fn send<G: Ground>(
 {
     admit(slot, out)?;
     let mut walk = Walk::open(ground.head(), heap)?;
+    // By number, since `put` is told the bit's place.
     for i in 0..slot {
         let Some(question) = walk.question() else {
             return Ok(i);

@@ -1,14 +1,11 @@
-use Rattle.std.proofs.Common.{◌≡◌, ℕ, zero, suc, ◌+◌, ◌-◌, ◌*◌, ◌/◌, ◌%◌, ◌^◌, ◌<◌, ◌≤◌, Bool, true, false, cond, ◌&&◌, eqb, ltb, ◌⊎◌, List, length, get_or, ℤ, pos, ◌+ℤ◌, ◌-ℤ◌, nat_abs, Some, None, Option, sym, refl, ap, ◌∙◌, subst, ap₂, inl, inr, mul-le-mul_left, arith, pow_mono, Bor}
+use Rattle.std.proofs.Common.{◌≡◌, ℕ, zero, suc, ◌+◌, ◌-◌, ◌*◌, ◌/◌, ◌%◌, ◌^◌, ◌<◌, ◌≤◌, Bool, true, false, cond, ◌&&◌, eqb, ltb, ◌⊎◌, ℤ, pos, ◌+ℤ◌, ◌-ℤ◌, nat_abs, Some, None, sym, refl, ap, ◌∙◌, subst, ap₂, inl, inr, mul-le-mul_left, arith, pow_mono}
 use mathlib.Core.Path.{fun_ext}
 use borrow.Author.Differences.{ints}
 use lib.Signed.{shr_z}
 use Rattle.std.proofs.lemmas.Bool.{lt-ltb, le-ltb, cases_lt, cases_eq, cond-true, cond-false, cases_Bool}
 use Rattle.std.proofs.lemmas.Nat.{one_shl}
-use Rattle.std.proofs.lemmas.List.{get_or_read}
 use Rattle.std.proofs.lemmas.Bool.Decides.{Decides-below_and, Decides-eqb}
 use Rattle.transform.specs.Transform.{Grid, On, first_of, second_of, one_of, joined, in_columns, unlevel, unlevels, transform, undone}
-use Rattle.std.specs.Option.{option_map}
-use Rattle.std.specs.Slice.{IsGetResult}
 use Rattle.transform.specs.Errors.{Near, ceil_half, growth, drift_of, bound_of, for_planes, DriftIsGrowth, MapsNear, HeightsNear, Admitted, ReadingsSmall}
 use Rattle.transform.proofs.Halving.{half_is, joined_in, joined_rest}
 use Rattle.transform.proofs.Levels.{comes_back}
@@ -186,11 +183,6 @@ readings k w s g le small i j p q =
 pub readings_small : ReadingsSmall
 unfolding undone
 readings_small m k g le small i j p q = let r = readings k (2 ^ m) (2 ^ m) g (omega arith) small i j p q in omega arith
-
--- what the code of `drift` looks up, and what that of `bound` computes from it
-pub looked_up : (xs : List ℕ) (i : ℕ) (r : Option (Bor ℕ)) → IsGetResult xs i i r → option_map (λ x. x.now) r ≡ cond (ltb i (length xs)) (Some (get_or xs i 0)) None
-looked_up xs i None f = sym (cond-false _ _ _ (le-ltb i (length xs) f.3))
-looked_up xs i (Some x) f = ap Some (get_or_read xs i x.now f.3.0 f.1 0) ∙ sym (cond-true _ _ _ (lt-ltb i (length xs) f.3.0))
 
 sum_is : (q k d l : ℕ) → d ≡ drift_of q → l ≡ k → q < 16 → (1 * 2 ^ q) % 4294967296 - 1 + l * d ≡ bound_of q k
 unfolding bound_of

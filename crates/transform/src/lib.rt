@@ -14,7 +14,7 @@ pub fn drift(planes: u8) -> Option<u32>
     ensures value { result ≡ for_planes planes (drift_of planes) }
     ensures formula { DriftIsGrowth }
 {
-    DRIFT.get(planes as usize).copied()
+    DRIFT.get(usize::from(planes)).copied()
 }
 
 // The error to admit for every height, with that many planes open and that many levels to undo; none above 15 planes.

@@ -1,4 +1,4 @@
-// A stack as words: m, k, then the heights row by row, `.` for a cell without an echo.
+// A stack as words: m, k, then the heights row by row, `.` for a cell without an echo. Another format than that of `bench` or `survey`; what the readers share is the call of `enter`.
 use anyhow::anyhow;
 use frame::{ClosedFrame, OpenFrame};
 use head::Shape;

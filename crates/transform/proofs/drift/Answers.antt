@@ -1,8 +1,11 @@
-use Rattle.std.proofs.Common.{◌∙◌}
-use Rattle.transform.specs.Errors.{drifts, drift_of}
-use Rattle.transform.proofs.Errors.{drift_is_growth, looked_up}
+use Rattle.std.proofs.Common.{rules}
+use Rattle.transform.specs.Errors.{drift_of}
+use Rattle.transform.proofs.Errors.{drift_is_growth}
 use Rattle.transform.proofs.drift.Goals as goal
 
-pub returns : goal.returns
+pub returns-clause-value : goal.returns-clause-value
 unfolding drift_of
-returns c = record { value = c.copied.ensures ∙ looked_up drifts c.args.planes _ c.get.ensures.lookup; formula = drift_is_growth }
+returns-clause-value c = search rules
+
+pub returns-clause-formula : goal.returns-clause-formula
+returns-clause-formula c = drift_is_growth
