@@ -39,7 +39,7 @@ struct Lines {
 }
 
 impl Lines {
-    // Halves the first lines in place: as many of them, and as far, as the buffer is long.
+    // Halves the first lines in place: as many of them, and as far, as the buffer is long. By number, since the lines of columns overlap in the slice and no iterator cuts it into them.
     fn halve(self, values: &mut [i32], line: &mut [i32])
         requires inner { length line.old ≤ self.side }
         requires whole { self.side * self.side ≤ length values.old }
