@@ -24,7 +24,7 @@ struct Times {
     send_peak: Fastest,
 }
 
-// Sends the whole survey, and answers its bits.
+// Sends the whole survey into a buffer that is kept, so that its time is not the allocator's, and answers its bits; `vectors` hands out the bytes.
 fn whole<G: Ground>(ground: &G, out: &mut [u8], heap: Global) -> anyhow::Result<usize> {
     send(ground, MOST_BITS, out, heap).map_err(|_| anyhow!("cannot send"))
 }
@@ -79,7 +79,7 @@ fn run(rt: &HostRuntime) -> anyhow::Result<()> {
     let mut input = Vec::new(heap);
     rt.stdin().read_to_end(&mut input)?;
     let frame = reading::stack(&input, heap)?;
-    let mut out = vec![in heap; 0u8; MOST_BITS / 8 + 1]?;
+    let mut out = vec![in heap; 0u8; MOST_BITS.div_ceil(8)]?;
     let mut times = Times::default();
     let asked = rounds(rt)?;
     let mut count = 0;

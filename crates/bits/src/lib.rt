@@ -35,6 +35,7 @@ pub fn put(out: &mut [u8], i: usize, b: bool) -> Result<(), PastEnd>
     if k >= out.len() {
         return Err(PastEnd);
     }
+    // By index: of `get_mut` it is not known what the slice ends as.
     let before = if i % 8 == 0 { 0 } else { out[k] };
     out[k] = if b {
         before | (1 << (7 - i % 8))

@@ -7,7 +7,7 @@ ghost use Rattle.ground.specs.Tells.{InRectangle, Reaches, SomeReach};
 ghost use Rattle.std.proofs.Common.{rules};
 
 use crate::questions::{Plane, inner_exponent};
-use crate::{Block, Ground, TOP_PLANE};
+use crate::{Block, Ground};
 use frame::ClosedFrame;
 use head::{Head, Shape};
 use heights::Coefficients;
@@ -147,7 +147,8 @@ impl Ground for BareGrid {
     }
 
     fn has_bit(&self, row: usize, column: usize, plane: u8) -> bool {
-        plane <= TOP_PLANE
-            && (self.coefficients.coefficient(row, column).unsigned_abs() >> plane) % 2 == 1
+        Plane::new(plane).is_some_and(|_| {
+            (self.coefficients.coefficient(row, column).unsigned_abs() >> plane) % 2 == 1
+        })
     }
 }

@@ -26,7 +26,7 @@ pub struct PeakGrid {
     ghost right: { ((b : Node bare.head.shape.exponent) → Right bare.head.shape.exponent (coefficients_of bare.coefficients) peaks.items b.side b.row b.column) },
 }
 
-// Fills in the peaks of a block and of all blocks within it, and answers the block's. The block's numbers are handed one by one: as a `Tile`, which is passed in memory, they take half as long again.
+// Fills in the peaks of a block and of all blocks within it, and answers the block's. The block's numbers are handed one by one: as a `Tile`, which is passed in memory, a grid of side 64 takes 33 µs in place of 22, where 24 were enough before.
 fn fill(peaks: &mut [u16], coefficients: &Coefficients, depth: u8, row: usize, column: usize) -> u16
     requires deep { depth ≤ coefficients.now.shape.exponent }
     requires row_in { row < 2 ^ depth }
@@ -50,7 +50,7 @@ fn fill(peaks: &mut [u16], coefficients: &Coefficients, depth: u8, row: usize, c
     peak
 }
 
-// The magnitude of a cell of the grid. The cast is proved to lose nothing.
+// The magnitude of a cell of the grid. A cast that is proved to lose nothing, where `try_from` would have a case that never comes.
 fn magnitude(coefficients: &Coefficients, row: usize, column: usize) -> u16
     requires row_in { row < 2 ^ coefficients.now.shape.exponent }
     requires column_in { column < 2 ^ coefficients.now.shape.exponent }
@@ -61,14 +61,14 @@ fn magnitude(coefficients: &Coefficients, row: usize, column: usize) -> u16
 }
 
 impl PeakGrid {
-    // The ground of a closed frame's heights. Not one function of a trait with the bare grid's: that one is made without memory and cannot fail.
+    // The ground of a closed frame's heights.
     pub fn of(frame: &ClosedFrame, heap: Global) -> Result<PeakGrid, AllocError>
         ensures { IfOk result (λ p. GroundOf frame.now p.bare.head (coefficients_of p.bare.coefficients)) }
     {
         PeakGrid::over(Coefficients::of(frame, heap)?, heap)
     }
 
-    // The ground whose grid these coefficients are.
+    // The ground whose grid these coefficients are. `BareGrid::over` takes no memory and cannot fail, so neither `over` nor `of`, which is one line over it, is a function of a trait.
     pub fn over(coefficients: Coefficients, heap: Global) -> Result<PeakGrid, AllocError>
         ensures { IfOk result (λ p. (p.bare.coefficients ≡ coefficients) × (p.bare.head.shape ≡ coefficients.shape)) }
     {

@@ -22,7 +22,7 @@ pub enum Refusal {
 }
 
 impl Refusal {
-    // The discriminant is the number, which `as` reads off.
+    // The discriminant is the number, so `as` reads it off; a `From` would be a second table.
     pub fn number(self) -> u8
         ensures { result ≡ number_of self }
     {

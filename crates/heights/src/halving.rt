@@ -3,7 +3,7 @@ ghost use Rattle.std.specs.Prelude.{◌≡◌};
 ghost use Rattle.transform.specs.Transform.{difference_of, first_of, low_of, second_of};
 ghost use Rattle.heights.specs.Lines.{Small};
 
-// The low and the difference of a pair. The shift rounds towards minus infinity.
+// The low and the difference of a pair. The shift rounds towards minus infinity. What is asked of the numbers is a fact and no type: each comes out of a slice of i32 and goes back into one.
 pub(crate) fn halve(a: i32, b: i32) -> (i32, i32)
     requires first { Small a }
     requires second { Small b }

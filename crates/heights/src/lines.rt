@@ -15,6 +15,7 @@ fn halve_line(values: &mut [i32], stride: usize, line: &mut [i32])
     ensures line { (t : ℕ) → t < length line.old → strided values.new stride t ≡ halved (length line.old / 2) (strided values.old stride) t }
     ensures rest { (p : ℕ) → ((t : ℕ) → t < length line.old → p ≢ t * stride) → slice_index_or values.new p (pos 0) ≡ slice_index_or values.old p (pos 0) }
 {
+    // The stride by number, as where the halves are laid back.
     for (t, number) in line.iter_mut().enumerate() {
         *number = values[t * stride];
     }
@@ -52,7 +53,7 @@ impl Lines {
     }
 }
 
-// One level of the transform on the top left square that is as wide as the buffer is long: its rows, then its columns.
+// One level of the transform on the top left square that is as wide as the buffer is long: its rows, then its columns. Numbers and shape are handed apart: together they are `Coefficients`, which these numbers are not yet.
 pub(crate) fn level(values: &mut [i32], shape: Shape, line: &mut [i32])
     requires pairs { length line.old % 2 ≡ 0 }
     requires inner { length line.old ≤ 2 ^ shape.exponent }

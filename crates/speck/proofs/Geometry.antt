@@ -57,7 +57,6 @@ made (Rest (suc d) x) = λ i j. simp (add-suc, suc-add) (omega (arith, square_ze
     grows : (x d i j : ℕ) → square (suc x) 0 0 i j ≤ square (suc (suc (x + d))) 0 0 i j
     grows x d i j = simp (add-suc, suc-add) at (square_grows (suc x) (suc d) i j)
 
--- all of a list
 -- what holds of a single cell, and of a set whose parts it holds of, holds of every part
 module _ (P : Part → Type 0) (one : (r c : ℕ) → P (Block 0 r c)) (more : (p : Part) (k : Part) (ks : List Part) → view p ≡ parts k ks → AllByRecursion P (k ∷ ks) → P p) where
   pub block_ind : (s r c : ℕ) → P (Block s r c)

@@ -24,7 +24,7 @@ pub enum Fault {
 
 impl Fault {
     // A row without so many entries.
-    pub fn entries(line: usize, count: usize) -> Fault {
+    pub(crate) fn entries(line: usize, count: usize) -> Fault {
         Fault::Expected {
             line,
             what: Expected::Entries(count),

@@ -1,4 +1,4 @@
-// The text of a stack: a line with m and k, then a line for each row.
+// The text of a stack: a line with m and k, then a line for each row. A format of its own, with a fault for each line; what it shares with the other readers is the call of `enter`.
 use crate::faults::{Expected, Fault};
 use frame::{ClosedFrame, OpenFrame};
 use head::Shape;

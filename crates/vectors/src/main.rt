@@ -25,7 +25,7 @@ fn add_bytes(page: &mut String, bytes: &[u8]) -> anyhow::Result<()> {
 
 // The bytes that hold the whole survey, and the number of its bits. `bench` counts into a buffer that it keeps.
 fn whole<G: Ground>(ground: &G, heap: Global) -> anyhow::Result<(Vec<u8>, usize)> {
-    let mut bytes = vec![in heap; 0u8; MOST_BITS / 8 + 1]?;
+    let mut bytes = vec![in heap; 0u8; MOST_BITS.div_ceil(8)]?;
     let count = send(ground, MOST_BITS, &mut bytes, heap).map_err(|_| anyhow!("cannot send"))?;
     bytes.truncate(count.div_ceil(8));
     Ok((bytes, count))

@@ -78,9 +78,6 @@ impl Walk {
     pub fn open_planes(&self) -> u8
         ensures { result ≡ open_planes (state_of self.now) }
     {
-        match self.asking {
-            None => 0,
-            Some(_) => self.lists.plane + 1,
-        }
+        self.asking.map_or(0, |_| self.lists.plane + 1)
     }
 }

@@ -92,7 +92,7 @@ impl Lists {
         }
     }
 
-    // The next part that waits, or else the next bit of a found cell.
+    // The next part that waits, or else the next bit of a found cell. A match and no chain, here and at a plane's beginning: a closure over the lists would state again what the move asks of them.
     pub(crate) fn ask_on(&mut self) -> Option<Asking>
         requires { Sorts 0 self.old }
         ensures { Now result self.new (going (go_on self.old.plane (todo_of self.old) (noes_of self.old) (old_of self.old) (new_of self.old))) }
