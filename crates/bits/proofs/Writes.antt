@@ -1,5 +1,5 @@
 -- Bits written into a buffer, and read again.
-use Rattle.std.proofs.Common.{◌≡◌, ℕ, zero, suc, ◌+◌, ◌-◌, ◌*◌, ◌/◌, ◌%◌, ◌^◌, ◌<◌, ◌≤◌, Bool, true, false, eqb, ltb, ◌⊎◌, List, [], ◌∷◌, ◌++◌, length, get_or, take, drop, set, sym, refl, ap, ◌∙◌, subst, ⊎_elim, mul_assoc, add-mul, suc-add, zero-add, mul-one, div-one, mul_left_comm, arith}
+use Rattle.std.proofs.Common.{◌≡◌, ℕ, zero, suc, ◌+◌, ◌-◌, ◌*◌, ◌/◌, ◌%◌, ◌^◌, ◌<◌, ◌≤◌, Bool, true, false, eqb, ◌⊎◌, List, [], ◌∷◌, ◌++◌, length, get_or, take, drop, set, sym, refl, ap, ◌∙◌, subst, ⊎_elim, mul_assoc, add-mul, suc-add, zero-add, mul-one, div-one, mul_left_comm, arith}
 use native.Mathlib.Nat.{pow-succ', div-div-eq-div-mul}
 use lib.Bits.{bit_or}
 use Rattle.std.proofs.lemmas.Bool.Decides.{nat_tests}
@@ -154,12 +154,6 @@ written_list ts old new fits w =
 -- a bit written behind the first ones
 pub marked_in : (bytes : List ℕ) (i : ℕ) (b : Bool) (v : ℕ) → i / 8 < length bytes → v ≡ with_bit (begun (get_or bytes (i / 8) 0) (i % 8)) (i % 8) b → set bytes (i / 8) v ≡ marked bytes i b
 marked_in bytes i b v h e = ap (set bytes (i / 8)) e ∙ grind (arith, nat_tests)
-
-pub marked_past : (bytes : List ℕ) (i : ℕ) (b : Bool) → length bytes ≤ i / 8 → bytes ≡ marked bytes i b
-marked_past bytes i b h = grind (arith, nat_tests)
-
-pub past_none : (bytes : List ℕ) (i : ℕ) → length bytes ≤ i / 8 → false ≡ ltb i (8 * length bytes)
-past_none bytes i h = grind (arith, nat_tests)
 
 -- what the byte of the next bit holds before it
 begun_is : (ts : List Bool) (old new : List ℕ) → Written ts old new → begun (get_or new (length ts / 8) 0) (length ts % 8) ≡ byte_at ts (length ts / 8)
