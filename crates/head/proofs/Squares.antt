@@ -1,5 +1,5 @@
 use Rattle.std.proofs.Common.{◌≡◌, ℕ, zero, suc, ◌+◌, ◌*◌, ◌/◌, ◌%◌, ◌^◌, ◌<◌, ◌≤◌, refl, pow-suc, arith, pow_mono}
-use Rattle.std.proofs.lemmas.Nat.{mul-add-lt, mul-le, pow_pos, div_below, mod_below}
+use Rattle.std.proofs.lemmas.Nat.{mul-add-lt, pow_pos, div_below, mod_below}
 
 pub side_small : (m : ℕ) → m ≤ 6 → 2 ^ m ≤ 64
 side_small m h = pow_mono h
@@ -8,9 +8,6 @@ side_small m h = pow_mono h
 pub area : (m : ℕ) → 2 ^ m * 2 ^ m ≡ 4 ^ m
 area zero = refl
 area (suc m) = let ih = area m in rw (pow-suc 4 m, pow-suc 2 m) (omega arith)
-
-pub area_small : (m : ℕ) → m ≤ 6 → 4 ^ m ≤ 4096
-area_small m h = rw (← area m) (mul-le (2 ^ m) (2 ^ m) 64 64 (side_small m h) (side_small m h))
 
 -- the place of a cell in row order, and the cell of a place
 pub place_in : (m i j : ℕ) → i < 2 ^ m → j < 2 ^ m → i * 2 ^ m + j < 4 ^ m
