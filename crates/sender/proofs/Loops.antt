@@ -14,7 +14,6 @@ use Rattle.speck.proofs.About.{about_grid}
 use Rattle.walk.specs.Walks.{Follows, Judged, state_of}
 use Rattle.walk.specs.declared.Walk.{Walk}
 use Rattle.walk.specs.declared.asking.BitFault.{BitFault}
-use Rattle.sender.specs.declared.SendFault.{SendFault}
 use Rattle.sender.specs.declared.SendFault.TheVariants as fault
 use Rattle.sender.specs.Asked.{told}
 use Rattle.sender.specs.Sending.{Sends, slot_fault, survey_of}
@@ -95,16 +94,3 @@ room_for slot old e = by (leb slot 86101) (leb (bytes_for slot) (length old)) re
     by true true q h = leb-true (bytes_for slot) (length old) q
     by true false q h = absurd (let z : ◌≡◌ {A = ℕ} 0 1 = cc in omega arith)
     by false b q h = absurd (let z : ◌≡◌ {A = ℕ} 0 1 = cc in omega arith)
-
-never_memory : (slot : ℕ) (old : List ℕ) → slot_fault slot old ≡ Some fault.Memory → ⊥
-never_memory slot old e = by (leb slot 86101) (leb (bytes_for slot) (length old)) e
-  where
-    by : (a b : Bool) → cond a (cond b None (Some fault.Buffer)) (Some fault.Slot) ≡ Some fault.Memory → ⊥
-    by true true h = let z : ◌≡◌ {A = ℕ} 0 1 = cc in omega arith
-    by true false h = let z : ◌≡◌ {A = ℕ} 0 1 = cc in omega arith
-    by false b h = let z : ◌≡◌ {A = ℕ} 0 1 = cc in omega arith
-
-pub refused : (all : List Bool) (slot : ℕ) (old : List ℕ) (e : SendFault) → slot_fault slot old ≡ Some e → Sends all slot old old (Err e)
-refused all slot old fault.Slot h = (h, refl)
-refused all slot old fault.Buffer h = (h, refl)
-refused all slot old fault.Memory h = absurd (never_memory slot old h)

@@ -1,53 +1,24 @@
-use Rattle.std.proofs.Common.{◌-◌, [], ◌∷◌, ◌++◌, Err, sym, refl, ap, ◌∙◌, subst, arith}
+use Rattle.std.proofs.Common.{◌-◌, [], ◌∷◌, ◌++◌, sym, ap, ◌∙◌, subst, arith}
 use Rattle.std.proofs.lemmas.List.{length_push}
-use Rattle.std.proofs.lemmas.Result.{err_from_is_err_and}
-use Rattle.head.specs.declared.Head.{Head}
-use Rattle.bits.proofs.Writes.{written_none}
 use Rattle.speck.specs.Laws.{AboutGrid}
 use Rattle.walk.specs.Walks.{asks}
 use Rattle.sender.specs.Asked.{told}
-use Rattle.sender.specs.Sending.{Sends, survey_of}
+use Rattle.sender.specs.Sending.{survey_of}
 use Rattle.sender.proofs.Heads.{never_longer, sends_frame, shape_headed}
-use Rattle.sender.proofs.Loops.{Followed, asks_about, finish_all, finish_slot, refused, room_for, taken_ok, taken_on, told_none, told_on}
+use Rattle.sender.proofs.Loops.{asks_about, finish_all, finish_slot, room_for, taken_ok, taken_on, told_none, told_on}
 use Rattle.sender.proofs.sending.send.Goals as goal
 
-pub returns-in_err-admit : goal.returns-in_err-admit
-returns-in_err-admit g c =
-    let x = c.args.ground.now in
-    let h = g.G.Ground.headed x in
-    let d = g.G.Ground.grid x in
-    let old = c.args.out.now in
-    let p = err_from_is_err_and c.from_residual.result c.from_residual.ensures.1 in
-    record {
-      sends = subst (Sends (survey_of h d) c.args.slot old old) (sym (p.1 ∙ ap Err p.2)) (refused (survey_of h d) c.args.slot old _ c.in_err-admit.ensures);
-      of_the_frame = sends_frame h d (g.met.G.Ground.counted x);
-      never_longer = never_longer h d;
-    }
+pub returns-in_err-admit-clause-of_the_frame : goal.returns-in_err-admit-clause-of_the_frame
+returns-in_err-admit-clause-of_the_frame g c = let x = c.args.ground.now in sends_frame (g.G.Ground.headed x) (g.G.Ground.grid x) (g.met.G.Ground.counted x)
 
-pub returns-in_err-walk : goal.returns-in_err-walk
-returns-in_err-walk g c =
-    let x = c.args.ground.now in
-    let h = g.G.Ground.headed x in
-    let d = g.G.Ground.grid x in
-    let old = c.args.out.now in
-    let p = err_from_is_err_and c.from_residual-in_err-walk.result c.from_residual-in_err-walk.ensures.1 in
-    record {
-      sends = subst (Sends (survey_of h d) c.args.slot old old) (sym (p.1 ∙ ap Err p.2)) (c.in_ok-admit.ensures.0, refl);
-      of_the_frame = sends_frame h d (g.met.G.Ground.counted x);
-      never_longer = never_longer h d;
-    }
+pub returns-in_err-admit-clause-never_longer : goal.returns-in_err-admit-clause-never_longer
+returns-in_err-admit-clause-never_longer g c = let x = c.args.ground.now in never_longer (g.G.Ground.headed x) (g.G.Ground.grid x)
 
-pub loop-i-init : goal.loop-i-init
-loop-i-init g c =
-    let h = g.G.Ground.headed c.args.ground.now in
-    let d = g.G.Ground.grid c.args.ground.now in
-    record {
-      bits = [];
-      count = refl;
-      begins = (survey_of h d, refl);
-      follows = subst (λ (k : Head). Followed c.in_ok-walk.walk k []) c.head.ensures c.in_ok-walk.ensures.follows;
-      written = written_none c.args.out.now;
-    }
+pub returns-in_err-walk-clause-of_the_frame : goal.returns-in_err-walk-clause-of_the_frame
+returns-in_err-walk-clause-of_the_frame g c = let x = c.args.ground.now in sends_frame (g.G.Ground.headed x) (g.G.Ground.grid x) (g.met.G.Ground.counted x)
+
+pub returns-in_err-walk-clause-never_longer : goal.returns-in_err-walk-clause-never_longer
+returns-in_err-walk-clause-never_longer g c = let x = c.args.ground.now in never_longer (g.G.Ground.headed x) (g.G.Ground.grid x)
 
 pub answer-answer-requires : goal.answer-answer-requires
 answer-answer-requires g c =
