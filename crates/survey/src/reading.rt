@@ -39,10 +39,9 @@ fn shape(line: &str) -> Result<Shape, Fault> {
 fn enter_row(frame: &mut OpenFrame, row: usize, text: &str) -> Result<(), Fault> {
     let line = row.saturating_add(2);
     let side = frame.shape().side();
-    for (column, word) in text.split_ascii_whitespace().enumerate() {
-        if column >= side {
-            return Err(Fault::entries(line, side));
-        }
+    let mut words = text.split_ascii_whitespace();
+    for column in 0..side {
+        let word = words.next().ok_or(Fault::entries(line, side))?;
         if word != "." {
             let height = word.parse::<i32>().map_err(|_| Fault::Expected {
                 line,
@@ -56,7 +55,7 @@ fn enter_row(frame: &mut OpenFrame, row: usize, text: &str) -> Result<(), Fault>
                 })?;
         }
     }
-    if text.split_ascii_whitespace().count() < side {
+    if words.next().is_some() {
         return Err(Fault::entries(line, side));
     }
     Ok(())
@@ -72,11 +71,11 @@ pub(crate) fn stack(text: &str, heap: Global) -> Result<ClosedFrame, Fault> {
         let line = lines.next().ok_or(Fault::entries(row + 2, side))?;
         enter_row(&mut frame, row, line)?;
     }
-    let mut beyond = rest.split('\n').enumerate().skip(side);
-    match beyond.find(|(_, line)| line.split_ascii_whitespace().next().is_some()) {
+    let mut beyond = lines.zip(side + 2..usize::MAX);
+    match beyond.find(|(text, _)| text.split_ascii_whitespace().next().is_some()) {
         None => Ok(frame.close()),
-        Some((row, _)) => Err(Fault::Expected {
-            line: row.saturating_add(2),
+        Some((_, line)) => Err(Fault::Expected {
+            line,
             what: Expected::End,
         }),
     }
