@@ -20,7 +20,7 @@ pub put_all-requires-clause-room : goal.put_all-requires-clause-room
 put_all-requires-clause-room c =
     let b = c.in-Block in
     let s = spread_block c.args.part b.side b.row b.column b.is (omega (arith, rw b.is at b.side-test.1)) c.requires.within in
-    chain_room c.args.self.now.pending _ (YieldsList-from_copied (YieldsList-at c.copied.ensures.source (YieldsList-from_slice _ c.iter.ensures.rest))) (ap (λ q. get_or q 1 (Block 0 0 0) ∷ get_or q 2 (Block 0 0 0) ∷ get_or q 3 (Block 0 0 0) ∷ []) c.quarters.ensures) (room c.args.self.now _ _ _ s c.requires)
+    chain_room c.args.self.now.pending _ (YieldsList-from_copied (YieldsList-at c.copied.ensures.source (YieldsList-from_slice _ c.iter.ensures.rest))) refl (room c.args.self.now _ _ _ s c.requires)
 
 pub returns-in-Block : goal.returns-in-Block
 returns-in-Block c =
