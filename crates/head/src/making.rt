@@ -61,7 +61,7 @@ impl Shape {
         self.side() * self.side()
     }
 
-    // The place of a cell in row order, if the map has it. In every public call a cell is a row and a column, and no struct: the rules, the tables and a caller in C name it by these two numbers.
+    // The place of a cell in row order, if the map has it. In every public call a cell is a row and a column, and no struct: the rules and the tables name it by these two numbers.
     pub fn place(&self, row: usize, column: usize) -> Option<usize>
         ensures value { result ≡ place_of self.now.exponent row column }
         ensures inside { IfSome result (λ p. p < 4 ^ self.now.exponent) }
