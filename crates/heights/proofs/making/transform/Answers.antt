@@ -1,4 +1,4 @@
-use Rattle.std.proofs.Common.{◌/◌, ◌^◌, length, take, refl, arith}
+use Rattle.std.proofs.Common.{refl, arith}
 use Rattle.std.proofs.lemmas.Grind.{common_steps}
 use Rattle.std.proofs.lemmas.Nat.{shr_le}
 use Rattle.transform.specs.Transform.{transform}
@@ -18,4 +18,4 @@ pub level-requires-clause-small : goal.level-requires-clause-small
 level-requires-clause-small c = λ i j p q. rw (c.loop-t.invariant.so_far i j p q) (fifteen_planes _ _ _ c.requires.span i j p q)
 
 pub loop-t-preserved : goal.loop-t-preserved
-loop-t-preserved c = record { room = grind (arith, common_steps); so_far = level_more c.args.shape.exponent c.loop-t.t (length (take (c.side.result / 2 ^ c.loop-t.t) c.loop-t.line)) _ _ _ (grind (arith, common_steps, shr_le)) c.loop-t.invariant.so_far c.level.ensures }
+loop-t-preserved c = record { room = grind (arith, common_steps); so_far = level_more c.args.shape.exponent c.loop-t.t _ _ _ _ (grind (arith, common_steps, shr_le)) c.loop-t.invariant.so_far c.level.ensures }
